@@ -1,0 +1,85 @@
+-- Demand 3: one claim about every list of calls (document 01, "The engine", last paragraph). The theorem is in proofs/Demand3.antt.
+-- Assumes nothing.
+use mathlib.Core.Path.{_≡_}
+use mathlib.Core.Bool.{Bool, true, false}
+use mathlib.Core.List.{List, [], _∷_, map}
+use mathlib.Core.Option.{Option, none, some}
+use Prim.Native.Nat.{ℕ, _+_, _*_}
+use lib.ListN.{getD, getElem?, take, replicate}
+use Rattle.sets.specs.Lists.{Elem, All}
+use Rattle.sets.specs.Bits.{has, mem}
+use Rattle.klaim.specs.Limits.{reportSize}
+use Rattle.klaim.specs.Net.{Net, Estimate, may}
+use Rattle.klaim.specs.Reader.{Answer, refused, gives}
+use Rattle.klaim.specs.Analysis.{accepted}
+use Rattle.klaim.specs.Check.{check}
+use Rattle.klaim.specs.State.{Thread, State, start}
+use Rattle.klaim.specs.Engine.{Event, brought, silent, performed, Result, permits, step, bring}
+
+-- a call: bring, with any bytes; a bare or a guarded step, with any numbers
+pub data Call : Type 0 where
+  bringing : List ℕ → Call
+  bare : ℕ → ℕ → ℕ → Call
+  guarded : ℕ → ℕ → ℕ → Call
+
+unfoldable pub call : State → Call → Result
+call st (bringing bytes) = bring st bytes
+call st (bare k m r) = step false st k m r
+call st (guarded k m r) = step true st k m r
+
+-- the same call, a step guarded
+unfoldable pub guard : Call → Call
+guard (bringing bytes) = bringing bytes
+guard (bare k m r) = guarded k m r
+guard (guarded k m r) = guarded k m r
+
+-- every answer, with the state behind it: each call gets "what the last returned or left"
+unfoldable pub run : State → List Call → List Result
+run st [] = []
+run st (c ∷ cs) = call st c ∷ run (call st c .state) cs
+
+-- the thread that a call acts on
+unfoldable pub acting : State → Call → Option Thread
+acting st (bringing bytes) = none
+acting st (bare k m r) = getElem? (st .threads) k
+acting st (guarded k m r) = getElem? (st .threads) k
+
+-- what follows is said of the net, the estimate and the report of the two checked texts
+module _ (N : Net) (E : Estimate) (report : List ℕ) where
+  -- "the report lists it if byte 32 × site + target has that right"
+  unfoldable pub listed : ℕ → ℕ → ℕ → Bool
+  listed s t right = has (getD report (32 * s + t) 0) right
+
+  -- (a) "Policies never forbid a silent step; they forbid any other performed one if, just before it, thread k's policy or the
+  -- home policy of its site lacks the answered right on the answered target": what they forbid, the report lists
+  abbrev pub Permitted : Option Thread → Answer Event → Type 0
+  Permitted th (refused n row) = Unit {0}
+  Permitted th (gives (brought q)) = Unit {0}
+  Permitted th (gives silent) = Unit {0}
+  Permitted none (gives (performed s t right)) = ⊥
+  Permitted (some th) (gives (performed s t right)) = permits N th t right ≡ false → listed s t right ≡ true
+
+  -- (b) "A tuple is within the estimate if an A row has it at its site, a thread's binding if a B row has it."
+  pub record Within (st : State) : Type 0 where
+    pub tuples-in : All (λ t. Elem t (E .stand)) (st .tuples)
+    pub bindings-in : All (λ th. (u s : ℕ) → getD (th .bindings) u none ≡ some s → mem s (may E u) ≡ true) (st .threads)
+
+  -- (b) at the start and after every call, (a) at every call
+  abbrev pub Safe : State → List Call → Type 0
+  Safe st [] = Within st
+  Safe st (c ∷ cs) = Within st × Permitted (acting st c) (call st c .answer) × Safe (call st c .state) cs
+
+  -- (c) "A report of 1,024 zeros is empty": then the list with guarded steps gives equal answers, and equal states after every call
+  abbrev pub GuardsIdle : State → List Call → Type 0
+  GuardsIdle st cs = report ≡ replicate reportSize 0 → run st (map guard cs) ≡ run st cs
+
+-- "The first call gets the state begun from the two checked texts": where check accepts them, the engine starts,
+-- and of every list of calls from there (a), (b) and (c) hold
+pub record Demand3 (net estimate buffer : List ℕ) : Type 0 where
+  pub state : State
+  pub started : start net estimate ≡ gives state
+  pub safe : (cs : List Call) → Safe (state .net) (state .estimate) (take reportSize (check net estimate buffer .buffer)) state cs
+  pub guards-idle : (cs : List Call) → GuardsIdle (state .net) (state .estimate) (take reportSize (check net estimate buffer .buffer)) state cs
+
+abbrev pub Statement : Type 0
+Statement = (net estimate buffer : List ℕ) → check net estimate buffer .answer ≡ gives accepted → Demand3 net estimate buffer

@@ -1,0 +1,15 @@
+-- Document 01, in its order.
+pub mod Limits
+pub mod Process
+pub mod Rows
+pub mod Net
+pub mod Reader
+pub mod Analysis
+pub mod Report
+pub mod Check
+pub mod State
+pub mod Engine
+pub mod Invariant
+pub mod Listing
+pub mod Demand3
+pub mod Examples

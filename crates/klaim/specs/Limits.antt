@@ -1,0 +1,37 @@
+-- The limits of document 01, each named once.
+-- Assumes nothing.
+use Prim.Native.Nat.{ℕ}
+
+-- "Sites are s0 to s31, variables u0 to u31"; "sandbox k (0 to 31)"
+abbrev pub siteLimit : ℕ
+siteLimit = 32
+
+abbrev pub varLimit : ℕ
+varLimit = 32
+
+abbrev pub boxLimit : ℕ
+boxLimit = 32
+
+-- T rows, A rows, and the tuples of a state: "at most 256"
+abbrev pub tupleLimit : ℕ
+tupleLimit = 256
+
+-- L rows, and the threads of a state: "at most 64"
+abbrev pub threadLimit : ℕ
+threadLimit = 64
+
+-- process lines: "at most 256"
+abbrev pub lineLimit : ℕ
+lineLimit = 256
+
+-- "a tuple of 1 to 4 sites"
+abbrev pub fieldLimit : ℕ
+fieldLimit = 4
+
+-- "The report is 1,024 bytes"
+abbrev pub reportSize : ℕ
+reportSize = 1024
+
+-- "at most 64 KiB"
+abbrev pub inputLimit : ℕ
+inputLimit = 65536

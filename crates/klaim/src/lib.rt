@@ -1,0 +1,19 @@
+//! The names that targets and fields are made of. The definitions of document 01 stand in specs/.
+
+// "A site number and a variable number are different sorts": Loc and LocVar of document 001.
+pub struct Site(pub u8);
+
+pub struct Var(pub u8);
+
+// A target or a field: a site, `self`, or a variable.
+pub enum Loc {
+    At(Site),
+    Here,
+    Use(Var),
+}
+
+// A field of a template: a value, or `!u`.
+pub enum Slot {
+    Value(Loc),
+    Bind(Var),
+}

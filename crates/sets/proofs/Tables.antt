@@ -1,0 +1,90 @@
+-- Laws of tables, and of a loop that fills an array with one.
+-- Assumes nothing.
+use mathlib.Core.Path.{_≡_, refl, sym, ap, _∙_}
+use mathlib.Core.Bool.{Bool, true, false}
+use mathlib.Core.Logic.{_⊎_, inl, inr}
+use mathlib.Core.List.{List, [], _∷_}
+use Prim.Native.Nat.{ℕ, zero, suc, _+_, _<_, _≤_}
+use native.Mathlib.Omega.{arith}
+use native.Mathlib.Decide.{ℕ-discrete}
+use native.Mathlib.Nat.{add-zero}
+use lib.Dec.{eqb}
+use lib.ListN.{length, getD, set, length-set, replicate}
+use lib.Seq.{getD-set-same, getD-set-other, ext-getD}
+use Rattle.sets.specs.Lists.{Elem, first, later, _&_, all, table, tableFrom, below}
+use Rattle.sets.proofs.Lists.{in-none, and-l, and-r, and-i, all-at}
+
+module _ {A : Type 0} where
+  length-tableFrom : (n i : ℕ) (f : ℕ → A) → length (tableFrom n i f) ≡ n
+  unfolding tableFrom
+  length-tableFrom zero i f = refl
+  length-tableFrom (suc n) i f = ap suc (length-tableFrom n (suc i) f)
+
+  getD-tableFrom : (n i : ℕ) (f : ℕ → A) (k : ℕ) (d : A) → k < n → getD (tableFrom n i f) k d ≡ f (i + k)
+  unfolding tableFrom
+  getD-tableFrom zero i f k d h = absurd (omega arith)
+  getD-tableFrom (suc n) i f zero d h = rw add-zero
+  getD-tableFrom (suc n) i f (suc k) d h = getD-tableFrom n (suc i) f k d (omega arith) ∙ ap f (omega arith)
+
+  pub length-table : (n : ℕ) (f : ℕ → A) → length (table n f) ≡ n
+  unfolding table
+  length-table n f = length-tableFrom n 0 f
+
+  pub getD-table : (n : ℕ) (f : ℕ → A) (k : ℕ) (d : A) → k < n → getD (table n f) k d ≡ f k
+  unfolding table
+  getD-table n f k d h = getD-tableFrom n 0 f k d h ∙ ap f (omega arith)
+
+  -- l₀ after a loop has stored f k at each k below i
+  pub record Filled (d : A) (f : ℕ → A) (l₀ l : List A) (i : ℕ) : Type 0 where
+    pub long : length l ≡ length l₀
+    pub done : (k : ℕ) → k < i → getD l k d ≡ f k
+    pub rest : (k : ℕ) → i ≤ k → getD l k d ≡ getD l₀ k d
+
+  pub filled-none : (d : A) (f : ℕ → A) (l : List A) → Filled d f l l 0
+  filled-none d f l = record { long = refl; done = λ k h. absurd (omega arith); rest = λ k h. refl }
+
+  pub filled-more : {d : A} {f : ℕ → A} {l₀ l : List A} {i : ℕ} {v : A} → Filled d f l₀ l i → i < length l₀ → v ≡ f i → Filled d f l₀ (set l i v) (i + 1)
+  filled-more {d} {f} {l₀} {l} {i} {v} F h e = record {
+    long = length-set l i v ∙ F .long;
+    done = λ k hk. at k hk (ℕ-discrete k i);
+    rest = λ k hk. getD-set-other l i k v d (omega arith) ∙ F .rest k (omega arith);
+  }
+    where
+      at : (k : ℕ) → k < i + 1 → Dec (k ≡ i) → getD (set l i v) k d ≡ f k
+      at k hk (yes p) = rw p (getD-set-same l i v d (omega (arith, F .long)) ∙ e)
+      at k hk (no p) = getD-set-other l i k v d p ∙ F .done k (omega arith)
+
+  pub filled-all : {d : A} {f : ℕ → A} {l₀ l : List A} {n : ℕ} → Filled d f l₀ l n → length l₀ ≡ n → l ≡ table n f
+  filled-all {d} {f} {l₀} {l} {n} F e =
+      ext-getD d l (table n f) (F .long ∙ e ∙ sym (length-table n f)) (λ k h. F .done k (omega (arith, F .long)) ∙ sym (getD-table n f k d (omega (arith, F .long))))
+
+  -- tables of functions that agree
+  pub same-table : (n : ℕ) (f g : ℕ → A) → A → ((k : ℕ) → k < n → f k ≡ g k) → table n f ≡ table n g
+  same-table n f g d e = ext-getD d (table n f) (table n g) (length-table n f ∙ sym (length-table n g)) (λ k h. go k (omega (arith, length-table n f)))
+    where
+      go : (k : ℕ) → k < n → getD (table n f) k d ≡ getD (table n g) k d
+      go k h = getD-table n f k d h ∙ e k h ∙ sym (getD-table n g k d h)
+
+-- the numbers below n
+from-in : (n i s : ℕ) → i ≤ s → s < i + n → Elem s (tableFrom n i (λ k. k))
+unfolding tableFrom
+from-in zero i s p q = absurd (omega arith)
+from-in (suc n) i s p q = go (ℕ-discrete s i) (λ h. from-in n (suc i) s h (omega arith))
+  where
+    go : Dec (s ≡ i) → (suc i ≤ s → Elem s (tableFrom n (suc i) (λ k. k))) → Elem s (i ∷ tableFrom n (suc i) (λ k. k))
+    go (yes e) ih = first e
+    go (no e) ih = later (ih (omega arith))
+
+in-from : (n i s : ℕ) → Elem s (tableFrom n i (λ k. k)) → s < i + n
+unfolding tableFrom
+in-from zero i s h = absurd (in-none h)
+in-from (suc n) i s (first e) = omega arith
+in-from (suc n) i s (later h) = omega (arith, in-from n (suc i) s h)
+
+pub below-in : (n s : ℕ) → s < n → Elem s (below n)
+unfolding below table
+below-in n s h = from-in n 0 s (omega arith) (omega arith)
+
+pub in-below : (n s : ℕ) → Elem s (below n) → s < n
+unfolding below table
+in-below n s h = omega (arith, in-from n 0 s h)
