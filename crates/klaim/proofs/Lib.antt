@@ -1,1 +1,5 @@
-pub mod Examples
+pub mod Process
+pub mod Bindings
+pub mod Invariant
+pub mod Flow
+pub mod Safety

@@ -44,42 +44,45 @@ acting st (bringing bytes) = none
 acting st (bare k m r) = getElem? (st .threads) k
 acting st (guarded k m r) = getElem? (st .threads) k
 
--- what follows is said of the net, the estimate and the report of the two checked texts
-module _ (N : Net) (E : Estimate) (report : List ℕ) where
-  -- "the report lists it if byte 32 × site + target has that right"
-  unfoldable pub listed : ℕ → ℕ → ℕ → Bool
-  listed s t right = has (getD report (32 * s + t) 0) right
+-- "the report lists it if byte 32 × site + target has that right"
+unfoldable pub listed : List ℕ → ℕ → ℕ → ℕ → Bool
+listed report s t right = has (getD report (32 * s + t) 0) right
 
-  -- (a) "Policies never forbid a silent step; they forbid any other performed one if, just before it, thread k's policy or the
-  -- home policy of its site lacks the answered right on the answered target": what they forbid, the report lists
-  abbrev pub Permitted : Option Thread → Answer Event → Type 0
-  Permitted th (refused n row) = Unit {0}
-  Permitted th (gives (brought q)) = Unit {0}
-  Permitted th (gives silent) = Unit {0}
-  Permitted none (gives (performed s t right)) = ⊥
-  Permitted (some th) (gives (performed s t right)) = permits N th t right ≡ false → listed s t right ≡ true
+-- (a) "Policies never forbid a silent step; they forbid any other performed one if, just before it, thread k's policy or the
+-- home policy of its site lacks the answered right on the answered target": what they forbid, the report lists
+abbrev pub Permitted : Net → List ℕ → Option Thread → Answer Event → Type 0
+Permitted N report th (refused n row) = Unit {0}
+Permitted N report th (gives (brought q)) = Unit {0}
+Permitted N report th (gives silent) = Unit {0}
+Permitted N report none (gives (performed s t right)) = ⊥
+Permitted N report (some th) (gives (performed s t right)) = permits N th t right ≡ false → listed report s t right ≡ true
 
-  -- (b) "A tuple is within the estimate if an A row has it at its site, a thread's binding if a B row has it."
-  pub record Within (st : State) : Type 0 where
-    pub tuples-in : All (λ t. Elem t (E .stand)) (st .tuples)
-    pub bindings-in : All (λ th. (u s : ℕ) → getD (th .bindings) u none ≡ some s → mem s (may E u) ≡ true) (st .threads)
+-- (b) "A tuple is within the estimate if an A row has it at its site, a thread's binding if a B row has it."
+pub record Within (E : Estimate) (st : State) : Type 0 where
+  pub tuples-in : All (λ t. Elem t (E .stand)) (st .tuples)
+  pub bindings-in : All (λ th. (u s : ℕ) → getD (th .bindings) u none ≡ some s → mem s (may E u) ≡ true) (st .threads)
 
-  -- (b) at the start and after every call, (a) at every call
-  abbrev pub Safe : State → List Call → Type 0
-  Safe st [] = Within st
-  Safe st (c ∷ cs) = Within st × Permitted (acting st c) (call st c .answer) × Safe (call st c .state) cs
+-- (b) at the start and after every call, (a) at every call
+abbrev pub Safe : Net → Estimate → List ℕ → State → List Call → Type 0
+Safe N E report st [] = Within E st
+Safe N E report st (c ∷ cs) = Within E st × Permitted N report (acting st c) (call st c .answer) × Safe N E report (call st c .state) cs
 
-  -- (c) "A report of 1,024 zeros is empty": then the list with guarded steps gives equal answers, and equal states after every call
-  abbrev pub GuardsIdle : State → List Call → Type 0
-  GuardsIdle st cs = report ≡ replicate reportSize 0 → run st (map guard cs) ≡ run st cs
+-- (c) "A report of 1,024 zeros is empty": then the list with guarded steps gives equal answers, and equal states after every call
+abbrev pub GuardsIdle : List ℕ → State → List Call → Type 0
+GuardsIdle report st cs = report ≡ replicate reportSize 0 → run st (map guard cs) ≡ run st cs
 
--- "The first call gets the state begun from the two checked texts": where check accepts them, the engine starts,
+-- the report that check wrote
+unfoldable pub reportOf : List ℕ → List ℕ → List ℕ → List ℕ
+reportOf net estimate buffer = take reportSize (check net estimate buffer .buffer)
+
+-- "The first call gets the state begun from the two checked texts": the engine starts,
 -- and of every list of calls from there (a), (b) and (c) hold
 pub record Demand3 (net estimate buffer : List ℕ) : Type 0 where
   pub state : State
   pub started : start net estimate ≡ gives state
-  pub safe : (cs : List Call) → Safe (state .net) (state .estimate) (take reportSize (check net estimate buffer .buffer)) state cs
-  pub guards-idle : (cs : List Call) → GuardsIdle (state .net) (state .estimate) (take reportSize (check net estimate buffer .buffer)) state cs
+  pub safe : (cs : List Call) → Safe (state .net) (state .estimate) (reportOf net estimate buffer) state cs
+  pub guards-idle : (cs : List Call) → GuardsIdle (reportOf net estimate buffer) state cs
 
+-- the only premise: check accepts the two texts, so that they are read
 abbrev pub Statement : Type 0
 Statement = (net estimate buffer : List ℕ) → check net estimate buffer .answer ≡ gives accepted → Demand3 net estimate buffer

@@ -1,0 +1,258 @@
+-- Every start gives the invariant, and every call keeps it.
+-- Assumes nothing.
+use mathlib.Core.Path.{_≡_, refl, sym, ap, subst, _∙_}
+use mathlib.Core.Logic.{_⊎_, inl, inr}
+use mathlib.Core.Bool.{Bool, true, false, not, cond, false≢true}
+use mathlib.Core.List.{List, [], _∷_, _++_, map}
+use mathlib.Core.Option.{Option, none, some}
+use Prim.Native.Nat.{ℕ, zero, suc, _+_, _<_, _≤_}
+use native.Mathlib.Omega.{arith}
+use lib.Dec.{eqb, leb, ltb}
+use lib.ListN.{length, getD, getElem?, length-append, length-map, length-replicate}
+use Rattle.sets.specs.Lists.{Elem, first, later, All, done, more, _&_, either, all, empty, splice, concat, among, _∪_}
+use Rattle.sets.specs.Bits.{outBit, inBit, readBit, evalBit, acceptBit}
+use Rattle.sets.proofs.Lists.{and-l, and-r, and-i, in-none, all-at, all-i, all-none, all-turn, all-snoc, all-append, all-map, all-splice, all-get, among-in, empty-none, All-get, All-append, All-splice, All-turn, All-in, All-concat, All-union, ltb-lt, lt-ltb, leb-le, in-concat, in-right, in-left, in-map}
+use Rattle.sets.proofs.Tables.{length-table}
+use Rattle.klaim.specs.declared.Loc.{Loc}
+use Rattle.klaim.specs.declared.Slot.{Slot}
+use Rattle.klaim.specs.declared.Slot.the-variants.{Value}
+use Rattle.klaim.specs.Process.{Line, Nil, Par, Rep, Out, In, Read, Eval, Accept, lineAt, children, boxesOf, slotsOf, template, sitesIn, usedIn, boundIn, Tree, node, tree, ordered, free, move}
+use Rattle.klaim.specs.Net.{Root, Net, Estimate}
+use Rattle.klaim.specs.Reader.{Answer, refused, gives, World, readArrival, readBoth, andThen}
+use Rattle.klaim.specs.Analysis.{matches}
+use Rattle.klaim.specs.Report.{door}
+use Rattle.klaim.specs.State.{Bindings, Thread, State, unbound, isNil, settle, homePolicy, boxPolicy, rootThread, begin, start}
+use Rattle.klaim.specs.Engine.{Event, silent, performed, Result, refuse, joined, bringRead, bring, value, bindAll, agrees, to, under, after, Plan, stop, quiet, act, getPlan, acceptPlan, plan, permits, limit, finish, stepOf, step}
+use Rattle.klaim.specs.Invariant.{allBelow, lineFits, ArrivalOk, ThreadOk, Invariant}
+use Rattle.klaim.proofs.Process.{child-line, tree-node, tree-old, free-new, ordered-join, used-free, child-free}
+use Rattle.klaim.proofs.Bindings.{BoundTo, Holds, Each, unbound-holds, BindsLow, bind-long, bind-holds, bind-kept, bind-new, each-all, LocOk, value-low}
+
+pub cond-at : {A : Type 0} (P : A → Type 0) (b : Bool) (x y : A) → (b ≡ true → P x) → (b ≡ false → P y) → P (cond b x y)
+cond-at P true x y p q = p refl
+cond-at P false x y p q = q refl
+
+-- a thread on any line
+pub record Standing (n : ℕ) (ls : List Line) (th : Thread) : Type 0 where
+  pub placed : th .site < n
+  pub policy-long : length (th .policy) ≡ 32
+  pub present : th .line < length ls
+  pub bindings-long : length (th .bindings) ≡ 32
+  pub bindings-low : Holds (λ u s. s < n) (th .bindings)
+  pub free-bound : (u : ℕ) → Elem u (free (tree ls (th .line))) → BoundTo (th .bindings) u
+
+pub standing : {n : ℕ} {ls : List Line} {th : Thread} → ThreadOk n ls th → Standing n ls th
+standing o = record { placed = o .placed; policy-long = o .policy-long; present = o .present; bindings-long = o .bindings-long; bindings-low = o .bindings-low; free-bound = o .free-bound }
+
+settle-ok : (n : ℕ) (ls : List Line) (th : Thread) → Standing n ls th → All (ThreadOk n ls) (settle ls th)
+unfolding settle
+settle-ok n ls th o =
+    cond-at (All (ThreadOk n ls)) (isNil (lineAt ls (th .line))) [] (th ∷ []) (λ t. done)
+    (λ t. more (record { placed = o .placed; policy-long = o .policy-long; present = o .present; running = t; bindings-long = o .bindings-long; bindings-low = o .bindings-low; free-bound = o .free-bound }) done)
+
+-- the invariant but for the lengths of the lists that a step makes
+pub record Loose (st : State) : Type 0 where
+  pub sites-some : 1 ≤ st .net .size
+  pub sites-few : st .net .size ≤ 32
+  pub lines-few : length (st .lines) ≤ 256
+  pub lines-ordered : ordered (st .lines) ≡ true
+  pub lines-fit : all (lineFits (st .net .size)) (st .lines) ≡ true
+  pub stand-fit : all (allBelow (st .net .size)) (st .estimate .stand) ≡ true
+  pub tuples-fit : all (allBelow (st .net .size)) (st .tuples) ≡ true
+  pub arrivals-ok : All (ArrivalOk (st .lines)) (st .arrivals)
+  pub threads-ok : All (ThreadOk (st .net .size) (st .lines)) (st .threads)
+
+tighten : {st : State} → Loose st → length (st .threads) ≤ 64 → length (st .tuples) ≤ 256 → Invariant st
+tighten o a b = record { sites-some = o .sites-some; sites-few = o .sites-few; lines-few = o .lines-few; threads-few = a; tuples-few = b; lines-ordered = o .lines-ordered; lines-fit = o .lines-fit; stand-fit = o .stand-fit; tuples-fit = o .tuples-fit; arrivals-ok = o .arrivals-ok; threads-ok = o .threads-ok }
+
+after-ok : (st : State) (k : ℕ) (th : Thread) (new : List Thread) (ts : List (List ℕ)) → Invariant st → Standing (st .net .size) (st .lines) th → All (ThreadOk (st .net .size) (st .lines)) new → all (allBelow (st .net .size)) ts ≡ true → Loose (after st k th new ts)
+unfolding after
+after-ok st k th new ts i s n t = record {
+  sites-some = i .sites-some;
+  sites-few = i .sites-few;
+  lines-few = i .lines-few;
+  lines-ordered = i .lines-ordered;
+  lines-fit = i .lines-fit;
+  stand-fit = i .stand-fit;
+  tuples-fit = t;
+  arrivals-ok = i .arrivals-ok;
+  threads-ok = All-append (All-splice k (settle-ok (st .net .size) (st .lines) th s) (i .threads-ok)) n;
+}
+
+-- what a step plans keeps the invariant, and its target is a site
+abbrev pub PlanOk : ℕ → Plan → Type 0
+PlanOk n (stop m) = Unit {0}
+PlanOk n (quiet new) = Loose new
+PlanOk n (act t right new) = Loose new × (t < n)
+
+fits-at : (n : ℕ) (ls : List Line) (q : ℕ) → all (lineFits n) ls ≡ true → q < length ls → lineFits n (lineAt ls q) ≡ true
+unfolding all
+fits-at n [] q t h = absurd (omega arith)
+fits-at n (l ∷ ls) zero t h = and-l _ _ t
+fits-at n (l ∷ ls) (suc q) t h = fits-at n ls q (and-r _ _ t) (omega arith)
+
+all-part : {A : Type 0} (f : ℕ → Bool) (g : A → List ℕ) {xs : List A} {x : A} → all f (concat g xs) ≡ true → Elem x xs → all f (g x) ≡ true
+all-part f g {x = x} t i = all-i f (g x) (λ y j. all-at f (in-concat g i j) t)
+
+all-right : (f : ℕ → Bool) (xs ys : List ℕ) → all f (xs ∪ ys) ≡ true → all f ys ≡ true
+all-right f xs ys t = all-i f ys (λ y j. all-at f (in-right xs j) t)
+
+no-binder : {u : ℕ} (ss : List Slot) → empty ss ≡ true → Elem u (concat boundIn ss) → ⊥
+unfolding empty concat
+no-binder [] t h = in-none h
+no-binder (s ∷ ss) t h = false≢true t
+
+-- thread th of st, on line l
+module _ (st : State) (i : Invariant st) (th : Thread) (o : Standing (st .net .size) (st .lines) th) where
+  abbrev n : ℕ
+  n = st .net .size
+
+  module _ (l : Line) (e : lineAt (st .lines) (th .line) ≡ l) where
+    fits : lineFits n l ≡ true
+    fits = subst (λ (x : Line). lineFits n x ≡ true) e (fits-at n (st .lines) (th .line) (i .lines-fit) (o .present))
+
+    free-here : (u : ℕ) → Elem u (free (node (tree (st .lines)) (th .line) l)) → BoundTo (th .bindings) u
+    free-here u h = o .free-bound u (subst (λ (t : Tree). Elem u (free t)) (sym (tree-node (st .lines) (th .line) (i .lines-ordered) ∙ ap (node (tree (st .lines)) (th .line)) e)) h)
+
+    pub loc-ok : (x : Loc) → Elem (Value x) (slotsOf l) → LocOk n (th .bindings) x
+    unfolding lineFits allBelow
+    loc-ok x j = record { sites-low = all-part _ sitesIn (and-l _ _ fits) j; used-bound = λ u h. free-here u (used-free (tree (st .lines)) (th .line) l j h) }
+
+    loc-low : (x : Loc) → Elem (Value x) (slotsOf l) → value (th .site) (th .bindings) x < n
+    loc-low x j = value-low (th .site) x (loc-ok x j) (o .placed) (o .bindings-low)
+
+    pub binds-low : BindsLow 32 (slotsOf l)
+    unfolding lineFits allBelow
+    binds-low = all-right _ (concat usedIn (slotsOf l)) _ (and-l _ _ (and-r _ _ fits))
+
+    pub child-present : (c : ℕ) → Elem c (children l) → c < length (st .lines)
+    child-present c h = child-line (st .lines) (th .line) (i .lines-ordered) c (subst (λ (x : Line). Elem c (children x)) (sym e) h)
+
+    -- a free variable of a child is bound, if what the template binds is
+    child-bound : (c : ℕ) → Elem c (children l) → (b : Bindings) → ((u : ℕ) → BoundTo (th .bindings) u → BoundTo b u) → ((u : ℕ) → Elem u (concat boundIn (template l)) → BoundTo b u) → (u : ℕ) → Elem u (free (tree (st .lines) c)) → BoundTo b u
+    child-bound c j b kept new u h = go (child-free (tree (st .lines)) (th .line) l j h)
+      where
+        go : (Elem u (free (node (tree (st .lines)) (th .line) l)) ⊎ Elem u (concat boundIn (template l))) → BoundTo b u
+        go (inl k) = kept u (free-here u k)
+        go (inr k) = new u k
+
+    -- a child at a site, under a policy, with the same bindings
+    child-stands : (c s : ℕ) (p : List ℕ) → Elem c (children l) → empty (template l) ≡ true → s < n → length p ≡ 32 → Standing n (st .lines) (record { site = s; policy = p; line = c; bindings = th .bindings })
+    child-stands c s p j plain low long = record {
+      placed = low;
+      policy-long = long;
+      present = child-present c j;
+      bindings-long = o .bindings-long;
+      bindings-low = o .bindings-low;
+      free-bound = child-bound c j (th .bindings) (λ u b. b) (λ u h. absurd (no-binder (template l) plain h));
+    }
+
+    to-stands : (c : ℕ) → Elem c (children l) → empty (template l) ≡ true → Standing n (st .lines) (to th c)
+    unfolding to
+    to-stands c j plain = child-stands c (th .site) (th .policy) j plain (o .placed) (o .policy-long)
+
+    -- `in` and `read`: the next line, with the new bindings
+    get-stands : (a : ℕ) (g : Loc) (ss : List Slot) (t : List ℕ) → children l ≡ a ∷ [] → template l ≡ ss → slotsOf l ≡ Value g ∷ ss → all (λ v. ltb v n) t ≡ true → agrees th g ss t ≡ true → Standing n (st .lines) (record { site = th .site; policy = th .policy; line = a; bindings = bindAll (Value g ∷ ss) t (th .bindings) })
+    unfolding agrees concat boundIn _∪_
+    get-stands a g ss t c m s low ok = record {
+      placed = o .placed;
+      policy-long = o .policy-long;
+      present = child-present a (subst (Elem a) (sym c) (first refl));
+      bindings-long = bind-long (Value g ∷ ss) t (th .bindings) ∙ o .bindings-long;
+      bindings-low = bind-holds 32 (λ u v. v < n) (Value g ∷ ss) t (th .bindings) (o .bindings-long) binds (each-all (λ u v. v < n) (λ v. ltb v n) (λ u v h. ltb-lt v n h) (Value g ∷ ss) t low) (o .bindings-low);
+      free-bound = child-bound a (subst (Elem a) (sym c) (first refl)) (bindAll (Value g ∷ ss) t (th .bindings))
+          (λ u b. bind-kept 32 (Value g ∷ ss) t (th .bindings) (o .bindings-long) binds u b)
+          (λ u h. bind-new 32 _ (Value g ∷ ss) t (th .bindings) (o .bindings-long) binds ok u (subst (λ (fs : List Slot). Elem u (concat boundIn fs)) m h));
+    }
+      where
+        binds : BindsLow 32 (Value g ∷ ss)
+        binds = subst (BindsLow 32) s binds-low
+
+  module _ (k m r : ℕ) where
+    get-ok : (l : Line) → lineAt (st .lines) (th .line) ≡ l → (right a : ℕ) (g : Loc) (ss : List Slot) (rest : List (List ℕ)) (x : Option (List ℕ)) → children l ≡ a ∷ [] → template l ≡ ss → slotsOf l ≡ Value g ∷ ss → getElem? (st .tuples) m ≡ x → all (allBelow n) rest ≡ true → PlanOk n (getPlan st k th right a g ss rest x)
+    unfolding getPlan allBelow
+    get-ok l e right a g ss rest none c w s q h = tt
+    get-ok l e right a g ss rest (some t) c w s q h =
+        cond-at (PlanOk n) (agrees th g ss t) _ (stop 23)
+        (λ ok. (
+          after-ok st k _ [] rest i (get-stands l e a g ss t c w s (all-get (allBelow n) (st .tuples) m (i .tuples-fit) q) ok) done h,
+          loc-low l e g (subst (Elem (Value g)) (sym s) (first refl)),
+        ))
+        (λ no. tt)
+
+    accept-ok : (a d : ℕ) (b c : Bool) → lineAt (st .lines) (th .line) ≡ Accept a d → among (st .arrivals) r ≡ b → PlanOk n (acceptPlan st k th r a d b c)
+    unfolding acceptPlan children template empty under boxPolicy
+    accept-ok a d false c e p = tt
+    accept-ok a d true false e p = tt
+    accept-ok a d true true e p = (
+      after-ok st k (to th a) _ (st .tuples) i (to-stands (Accept a d) e a (first refl) refl)
+          (settle-ok n (st .lines) _ guest) (i .tuples-fit),
+      o .placed,
+    )
+      where
+        root : ArrivalOk (st .lines) r
+        root = All-in (i .arrivals-ok) (among-in (st .arrivals) r p)
+
+        guest : Standing n (st .lines) (under (st .net) d (th .site) r unbound)
+        guest = record {
+          placed = o .placed;
+          policy-long = length-table 32 _;
+          present = root .present;
+          bindings-long = length-replicate {A = Option ℕ} 32 none;
+          bindings-low = unbound-holds (λ u s. s < n);
+          free-bound = λ u h. absurd (empty-none h (root .closed));
+        }
+
+    out-low : (a : ℕ) (g : Loc) (fs : List Loc) → lineAt (st .lines) (th .line) ≡ Out a g fs → allBelow n (map (value (th .site) (th .bindings)) (g ∷ fs)) ≡ true
+    unfolding allBelow slotsOf
+    out-low a g fs e = all-map (λ v. ltb v n) (value (th .site) (th .bindings)) (g ∷ fs) (all-i _ (g ∷ fs) (λ x j. lt-ltb _ n (loc-low (Out a g fs) e x (in-map Value j))))
+
+    plan-line : (l : Line) → lineAt (st .lines) (th .line) ≡ l → PlanOk n (plan st k th m r l)
+    unfolding plan children template slotsOf empty under boxPolicy
+    plan-line Nil e = tt
+    plan-line (Par a b) e =
+        after-ok st k (to th a) _ (st .tuples) i (to-stands (Par a b) e a (first refl) refl)
+        (settle-ok n (st .lines) (to th b) (to-stands (Par a b) e b (later (first refl)) refl)) (i .tuples-fit)
+    plan-line (Rep a) e =
+        after-ok st k th _ (st .tuples) i o
+        (settle-ok n (st .lines) (to th a) (to-stands (Rep a) e a (first refl) refl)) (i .tuples-fit)
+    plan-line (Out a g fs) e = (
+      after-ok st k (to th a) [] _ i (to-stands (Out a g fs) e a (first refl) refl) done
+          (all-snoc (allBelow n) (st .tuples) _ (i .tuples-fit) (out-low a g fs e)),
+      loc-low (Out a g fs) e g (first refl),
+    )
+    plan-line (In a g ss) e = get-ok (In a g ss) e inBit a g ss (splice m [] (st .tuples)) _ refl refl refl refl (all-splice (allBelow n) m [] (st .tuples) (all-none (allBelow n)) (i .tuples-fit))
+    plan-line (Read a g ss) e = get-ok (Read a g ss) e readBit a g ss (st .tuples) _ refl refl refl refl (i .tuples-fit)
+    plan-line (Eval a g b d) e =
+        let low = loc-low (Eval a g b d) e g (first refl) in (
+          after-ok st k (to th a) _ (st .tuples) i (to-stands (Eval a g b d) e a (first refl) refl)
+              (settle-ok n (st .lines) _ (child-stands (Eval a g b d) e b _ _ (later (first refl)) refl low (length-table 32 _))) (i .tuples-fit),
+          low,
+        )
+    plan-line (Accept a d) e = accept-ok a d _ _ e refl
+
+    pub plan-ok : PlanOk n (plan st k th m r (lineAt (st .lines) (th .line)))
+    plan-ok = plan-line _ refl
+
+limit-ok : (st : State) (e : Event) (new : State) → Invariant st → Loose new → Invariant (limit st e new .state)
+unfolding limit
+limit-ok st e new i o =
+    cond-at (λ (x : Result). Invariant (x .state)) (leb (length (new .threads)) 64 & leb (length (new .tuples)) 256) _ _
+    (λ t. tighten o (leb-le _ _ (and-l _ _ t)) (leb-le _ _ (and-r _ _ t)))
+    (λ t. i)
+
+finish-ok : (guarded : Bool) (st : State) (th : Thread) (pl : Plan) → Invariant st → PlanOk (st .net .size) pl → Invariant (finish guarded st th pl .state)
+unfolding finish
+finish-ok guarded st th (stop n) i p = i
+finish-ok guarded st th (quiet new) i p = limit-ok st silent new i p
+finish-ok guarded st th (act t right new) i p =
+    cond-at (λ (x : Result). Invariant (x .state)) (either (not guarded) (permits (st .net) th t right)) _ _ (λ b. limit-ok st _ new i (p .0)) (λ b. i)
+
+stepOf-ok : (guarded : Bool) (st : State) (k m r : ℕ) (x : Option Thread) → getElem? (st .threads) k ≡ x → Invariant st → Invariant (stepOf guarded st k m r x .state)
+unfolding stepOf
+stepOf-ok guarded st k m r none e i = i
+stepOf-ok guarded st k m r (some th) e i = finish-ok guarded st th _ i (plan-ok st i th (standing (All-get k (i .threads-ok) e)) k m r)
+
+-- both steps keep the invariant
+pub step-keeps : (guarded : Bool) (st : State) (k m r : ℕ) → Invariant st → Invariant (step guarded st k m r .state)
+unfolding step
+step-keeps guarded st k m r i = stepOf-ok guarded st k m r _ refl i
