@@ -1,1 +1,3 @@
+pub mod Scan
+pub mod Reader
 pub mod Examples
