@@ -8,10 +8,10 @@ use mathlib.Core.Option.{Option, none, some}
 use Prim.Native.Nat.{ℕ, zero, suc, _+_, _<_, _≤_}
 use native.Mathlib.Omega.{arith}
 use lib.Dec.{eqb, leb, ltb}
-use lib.ListN.{length, getD, getElem?, length-append, length-map, length-replicate}
+use lib.ListN.{length, getD, getElem?, length-append, length-map, length-replicate, List·getD-append}
 use Rattle.sets.specs.Lists.{Elem, first, later, All, done, more, _&_, either, all, empty, splice, concat, among, _∪_}
 use Rattle.sets.specs.Bits.{outBit, inBit, readBit, evalBit, acceptBit}
-use Rattle.sets.proofs.Lists.{and-l, and-r, and-i, in-none, all-at, all-i, all-none, all-turn, all-snoc, all-append, all-map, all-splice, all-get, among-in, empty-none, All-get, All-append, All-splice, All-turn, All-in, All-concat, All-union, ltb-lt, lt-ltb, leb-le, in-concat, in-right, in-left, in-map}
+use Rattle.sets.proofs.Lists.{and-l, and-r, and-i, in-none, all-at, all-i, all-none, all-turn, all-snoc, all-append, all-map, all-splice, all-get, among-in, empty-none, All-get, All-append, All-splice, All-turn, All-in, All-concat, All-union, ltb-lt, lt-ltb, leb-le, in-concat, in-right, in-left, in-map, cond-at, length-union}
 use Rattle.sets.proofs.Tables.{length-table}
 use Rattle.klaim.specs.declared.Loc.{Loc}
 use Rattle.klaim.specs.declared.Slot.{Slot}
@@ -24,12 +24,9 @@ use Rattle.klaim.specs.Report.{door}
 use Rattle.klaim.specs.State.{Bindings, Thread, State, unbound, isNil, settle, homePolicy, boxPolicy, rootThread, begin, start}
 use Rattle.klaim.specs.Engine.{Event, silent, performed, Result, refuse, joined, bringRead, bring, value, bindAll, agrees, to, under, after, Plan, stop, quiet, act, getPlan, acceptPlan, plan, permits, limit, finish, stepOf, step}
 use Rattle.klaim.specs.Invariant.{allBelow, lineFits, ArrivalOk, ThreadOk, Invariant}
+use Rattle.klaim.proofs.Reader.{RootOk, NetOk, EstimateOk, ArrivalRead, then-gives, arrival-read, both-read}
 use Rattle.klaim.proofs.Process.{child-line, tree-node, tree-old, free-new, ordered-join, used-free, child-free}
 use Rattle.klaim.proofs.Bindings.{BoundTo, Holds, Each, unbound-holds, BindsLow, bind-long, bind-holds, bind-kept, bind-new, each-all, LocOk, value-low}
-
-pub cond-at : {A : Type 0} (P : A → Type 0) (b : Bool) (x y : A) → (b ≡ true → P x) → (b ≡ false → P y) → P (cond b x y)
-cond-at P true x y p q = p refl
-cond-at P false x y p q = q refl
 
 -- a thread on any line
 pub record Standing (n : ℕ) (ls : List Line) (th : Thread) : Type 0 where
@@ -46,7 +43,7 @@ standing o = record { placed = o .placed; policy-long = o .policy-long; present 
 settle-ok : (n : ℕ) (ls : List Line) (th : Thread) → Standing n ls th → All (ThreadOk n ls) (settle ls th)
 unfolding settle
 settle-ok n ls th o =
-    cond-at (All (ThreadOk n ls)) (isNil (lineAt ls (th .line))) [] (th ∷ []) (λ t. done)
+    cond-at (All (ThreadOk n ls)) (isNil (lineAt ls (th .line))) (λ t. done)
     (λ t. more (record { placed = o .placed; policy-long = o .policy-long; present = o .present; running = t; bindings-long = o .bindings-long; bindings-low = o .bindings-low; free-bound = o .free-bound }) done)
 
 -- the invariant but for the lengths of the lists that a step makes
@@ -172,7 +169,7 @@ module _ (st : State) (i : Invariant st) (th : Thread) (o : Standing (st .net .s
     unfolding getPlan allBelow
     get-ok l e right a g ss rest none c w s q h = tt
     get-ok l e right a g ss rest (some t) c w s q h =
-        cond-at (PlanOk n) (agrees th g ss t) _ (stop 23)
+        cond-at (PlanOk n) (agrees th g ss t)
         (λ ok. (
           after-ok st k _ [] rest i (get-stands l e a g ss t c w s (all-get (allBelow n) (st .tuples) m (i .tuples-fit) q) ok) done h,
           loc-low l e g (subst (Elem (Value g)) (sym s) (first refl)),
@@ -236,7 +233,7 @@ module _ (st : State) (i : Invariant st) (th : Thread) (o : Standing (st .net .s
 limit-ok : (st : State) (e : Event) (new : State) → Invariant st → Loose new → Invariant (limit st e new .state)
 unfolding limit
 limit-ok st e new i o =
-    cond-at (λ (x : Result). Invariant (x .state)) (leb (length (new .threads)) 64 & leb (length (new .tuples)) 256) _ _
+    cond-at (λ (x : Result). Invariant (x .state)) (leb (length (new .threads)) 64 & leb (length (new .tuples)) 256)
     (λ t. tighten o (leb-le _ _ (and-l _ _ t)) (leb-le _ _ (and-r _ _ t)))
     (λ t. i)
 
@@ -245,7 +242,7 @@ unfolding finish
 finish-ok guarded st th (stop n) i p = i
 finish-ok guarded st th (quiet new) i p = limit-ok st silent new i p
 finish-ok guarded st th (act t right new) i p =
-    cond-at (λ (x : Result). Invariant (x .state)) (either (not guarded) (permits (st .net) th t right)) _ _ (λ b. limit-ok st _ new i (p .0)) (λ b. i)
+    cond-at (λ (x : Result). Invariant (x .state)) (either (not guarded) (permits (st .net) th t right)) (λ b. limit-ok st _ new i (p .0)) (λ b. i)
 
 stepOf-ok : (guarded : Bool) (st : State) (k m r : ℕ) (x : Option Thread) → getElem? (st .threads) k ≡ x → Invariant st → Invariant (stepOf guarded st k m r x .state)
 unfolding stepOf
@@ -256,3 +253,121 @@ stepOf-ok guarded st k m r (some th) e i = finish-ok guarded st th _ i (plan-ok 
 pub step-keeps : (guarded : Bool) (st : State) (k m r : ℕ) → Invariant st → Invariant (step guarded st k m r .state)
 unfolding step
 step-keeps guarded st k m r i = stepOf-ok guarded st k m r _ refl i
+
+fits-move : (n d : ℕ) (l : Line) → lineFits n (move d l) ≡ lineFits n l
+unfolding lineFits move slotsOf boxesOf
+fits-move n d Nil = refl
+fits-move n d (Par a b) = refl
+fits-move n d (Rep a) = refl
+fits-move n d (Out a g fs) = refl
+fits-move n d (In a g fs) = refl
+fits-move n d (Read a g fs) = refl
+fits-move n d (Eval a g b k) = refl
+fits-move n d (Accept a k) = refl
+
+-- lines put behind leave an arrival and a thread as they are
+arrival-old : (ls ms : List Line) → ordered ls ≡ true → (r : ℕ) → ArrivalOk ls r → ArrivalOk (ls ++ ms) r
+arrival-old ls ms f r o = record {
+  present = omega (arith, o .present, length-append ls ms);
+  closed = subst (λ (t : Tree). empty (free t) ≡ true) (sym (tree-old ls ms r f (o .present))) (o .closed);
+}
+
+thread-old : (n : ℕ) (ls ms : List Line) → ordered ls ≡ true → (th : Thread) → ThreadOk n ls th → ThreadOk n (ls ++ ms) th
+thread-old n ls ms f th o = record {
+  placed = o .placed;
+  policy-long = o .policy-long;
+  present = omega (arith, o .present, length-append ls ms);
+  running = ap isNil (List·getD-append ls ms Nil (th .line) (o .present)) ∙ o .running;
+  bindings-long = o .bindings-long;
+  bindings-low = o .bindings-low;
+  free-bound = λ u h. o .free-bound u (subst (λ (t : Tree). Elem u (free t)) (tree-old ls ms (th .line) f (o .present)) h);
+}
+
+joined-ok : (st : State) (ms : List Line) → Invariant st → ArrivalRead (st .net .size) (length (st .lines)) ms → Invariant (joined st ms)
+unfolding joined
+joined-ok st ms i a = record {
+  sites-some = i .sites-some;
+  sites-few = i .sites-few;
+  lines-few = omega (arith, a .few, total);
+  threads-few = i .threads-few;
+  tuples-few = i .tuples-few;
+  lines-ordered = ordered-join (st .lines) ms (i .lines-ordered) (a .lines-ordered);
+  lines-fit = all-append (lineFits n) (st .lines) moved (i .lines-fit) (all-map (lineFits n) (move d) ms (all-turn (lineFits n) _ ms (λ l t. fits-move n d l ∙ t) (a .lines-fit)));
+  stand-fit = i .stand-fit;
+  tuples-fit = i .tuples-fit;
+  arrivals-ok = All-append (All-turn (arrival-old (st .lines) moved (i .lines-ordered)) (i .arrivals-ok)) (more new done);
+  threads-ok = All-turn (thread-old n (st .lines) moved (i .lines-ordered)) (i .threads-ok);
+}
+  where
+    n : ℕ
+    n = st .net .size
+
+    d : ℕ
+    d = length (st .lines)
+
+    moved : List Line
+    moved = map (move d) ms
+
+    total : length (st .lines ++ moved) ≡ d + length ms
+    total = length-append (st .lines) moved ∙ ap (λ (j : ℕ). d + j) (length-map ms (move d))
+
+    new : ArrivalOk (st .lines ++ moved) d
+    new = record {
+      present = omega (arith, a .some-line, total);
+      closed = subst (λ (us : List ℕ). empty us ≡ true) (sym (free-new (st .lines) ms (i .lines-ordered))) (a .closed);
+    }
+
+bringRead-ok : (st : State) (x : Answer (List Line)) → ((ls : List Line) → x ≡ gives ls → ArrivalRead (st .net .size) (length (st .lines)) ls) → Invariant st → Invariant (bringRead st x .state)
+unfolding bringRead
+bringRead-ok st (refused n row) h i = i
+bringRead-ok st (gives ls) h i = joined-ok st ls i (h ls refl)
+
+-- bring keeps the invariant
+pub bring-keeps : (st : State) (bytes : List ℕ) → Invariant st → Invariant (bring st bytes .state)
+unfolding bring
+bring-keeps st bytes i = bringRead-ok st _ (λ ls e. arrival-read _ _ bytes ls (i .lines-few) e) i
+
+settle-short : (ls : List Line) (th : Thread) → length (settle ls th) ≤ 1
+unfolding settle
+settle-short ls th = cond-at (λ (ts : List Thread). length ts ≤ 1) (isNil (lineAt ls (th .line))) (λ t. omega arith) (λ t. omega arith)
+
+concat-short : {A B : Type 0} (f : A → List B) → ((x : A) → length (f x) ≤ 1) → (xs : List A) → length (concat f xs) ≤ length xs
+unfolding concat
+concat-short f h [] = omega arith
+concat-short f h (x ∷ xs) = omega (arith, length-union (f x) (concat f xs), h x, concat-short f h xs)
+
+root-stands : (N : Net) (r : Root) → RootOk N r → Standing (N .size) (N .lines) (rootThread N r)
+unfolding rootThread homePolicy
+root-stands N r o = record {
+  placed = o .placed;
+  policy-long = length-table 32 _;
+  present = o .present;
+  bindings-long = length-replicate {A = Option ℕ} 32 none;
+  bindings-low = unbound-holds (λ u s. s < N .size);
+  free-bound = λ u h. absurd (empty-none h (o .closed));
+}
+
+begin-ok : (w : World) → NetOk (w .net) → EstimateOk (w .net .size) (w .estimate) → Invariant (begin w)
+unfolding begin
+begin-ok w n e = record {
+  sites-some = n .sites-some;
+  sites-few = n .sites-few;
+  lines-few = n .lines-few;
+  threads-few = omega (arith, n .roots-few, concat-short (λ r. settle (w .net .lines) (rootThread (w .net) r)) (λ r. settle-short _ _) (w .net .roots));
+  tuples-few = n .tuples-few;
+  lines-ordered = n .lines-ordered;
+  lines-fit = n .lines-fit;
+  stand-fit = e .stand-fit;
+  tuples-fit = n .tuples-fit;
+  arrivals-ok = done;
+  threads-ok = All-concat (λ r. settle (w .net .lines) (rootThread (w .net) r)) (λ r o. settle-ok (w .net .size) (w .net .lines) (rootThread (w .net) r) (root-stands (w .net) r o)) (n .roots-ok);
+}
+
+-- every start gives the invariant
+pub start-gives : (net estimate : List ℕ) (st : State) → start net estimate ≡ gives st → Invariant st
+unfolding start
+start-gives net estimate st e =
+    let (w, r, q) = then-gives (readBoth net estimate) e in
+    let p : begin w ≡ st = cc in
+    let (n, m) = both-read net estimate w r in
+    subst Invariant p (begin-ok w n m)

@@ -11,7 +11,7 @@ use lib.Dec.{eqb, leb}
 use lib.ListN.{length, getD, getElem?, replicate}
 use Rattle.sets.specs.Lists.{Elem, first, later, All, done, more, _&_, either, all, splice, concat, table, among}
 use Rattle.sets.specs.Bits.{outBit, inBit, readBit, evalBit, acceptBit, has, mem}
-use Rattle.sets.proofs.Lists.{and-l, and-r, all-get, among-in, in-map, All-get, All-append, All-splice, All-turn, All-in, In-All, All-concat-in}
+use Rattle.sets.proofs.Lists.{and-l, and-r, all-get, among-in, in-map, All-get, All-append, All-splice, All-turn, All-in, In-All, All-concat-in, cond-at}
 use Rattle.sets.proofs.Tables.{getD-table}
 use Rattle.sets.proofs.Bits.{has-none, in-sites}
 use Rattle.klaim.specs.declared.Loc.{Loc}
@@ -27,7 +27,7 @@ use Rattle.klaim.specs.Engine.{Event, silent, performed, Result, refuse,
 use Rattle.klaim.specs.Invariant.{allBelow, Invariant}
 use Rattle.klaim.specs.Demand3.{listed, Permitted, Within}
 use Rattle.klaim.proofs.Process.{tree-node, tree-old}
-use Rattle.klaim.proofs.Invariant.{cond-at, Standing, standing, loc-ok, binds-low}
+use Rattle.klaim.proofs.Invariant.{Standing, standing, loc-ok, binds-low}
 use Rattle.klaim.proofs.Bindings.{LocOk, BindsLow}
 use Rattle.klaim.proofs.Flow.{Fine, Used, Good, good-par-l, good-par-r, good-rep, good-out, good-eval, good-accept, good-get, out-stands, out-used, get-used, eval-used, accept-used, good-body, good-arrival, good-root, root-lawful, tuple-stands}
 
@@ -53,7 +53,7 @@ tracked-within N E st t = record { tuples-in = t .tuples-in; bindings-in = All-t
 -- 'sound' does not ask whether a thread stands on `nil`
 settle-sound : (N : Net) (E : Estimate) (ls : List Line) (th : Thread) → Sound N E ls th → All (Sound N E ls) (settle ls th)
 unfolding settle
-settle-sound N E ls th g = cond-at (All (Sound N E ls)) (isNil (lineAt ls (th .line))) [] (th ∷ []) (λ t. done) (λ t. more g done)
+settle-sound N E ls th g = cond-at (All (Sound N E ls)) (isNil (lineAt ls (th .line))) (λ t. done) (λ t. more g done)
 
 module _ (st : State) (i : Invariant st) where
   abbrev N : Net
@@ -84,7 +84,7 @@ module _ (st : State) (i : Invariant st) where
       unfolding getPlan agrees
       get-safe l e j a g ss rest none s q u h = tt
       get-safe l e j a g ss rest (some t) s q u h =
-          cond-at (PlanSafe th) (agrees th g ss t) _ (stop 23)
+          cond-at (PlanSafe th) (agrees th g ss t)
           (λ c. (
             after-tracked k _ [] rest
                 (good-get N E (i .sites-few) t h fields (o .bindings-long) (subst (BindsLow 32) s (binds-low st i th o l e)) (All-get m tuples-in q) (all-get (allBelow (N .size)) (st .tuples) m (i .tuples-fit) q) c)
@@ -136,13 +136,13 @@ module _ (st : State) (i : Invariant st) where
 
     limit-tracked : (e : Event) (new : State) → Tracked N E st → Tracked N E new → Tracked N E (limit st e new .state)
     unfolding limit
-    limit-tracked e new t n = cond-at (λ (x : Result). Tracked N E (x .state)) (leb (length (new .threads)) 64 & leb (length (new .tuples)) 256) _ _ (λ b. n) (λ b. t)
+    limit-tracked e new t n = cond-at (λ (x : Result). Tracked N E (x .state)) (leb (length (new .threads)) 64 & leb (length (new .tuples)) 256) (λ b. n) (λ b. t)
 
     finish-tracked : (guarded : Bool) (th : Thread) (pl : Plan) → Tracked N E st → PlanSafe th pl → Tracked N E (finish guarded st th pl .state)
     unfolding finish
     finish-tracked guarded th (stop n) t p = t
     finish-tracked guarded th (quiet new) t p = limit-tracked silent new t p
-    finish-tracked guarded th (act s right new) t p = cond-at (λ (x : Result). Tracked N E (x .state)) (either (not guarded) (permits N th s right)) _ _ (λ b. limit-tracked _ new t (p .0)) (λ b. t)
+    finish-tracked guarded th (act s right new) t p = cond-at (λ (x : Result). Tracked N E (x .state)) (either (not guarded) (permits N th s right)) (λ b. limit-tracked _ new t (p .0)) (λ b. t)
 
     -- the byte of the report
     listed-at : (s t right : ℕ) → s < 32 → t < 32 → has (reportAt N E s t) right ≡ true → listed (report N E) s t right ≡ true
@@ -186,13 +186,13 @@ module _ (st : State) (i : Invariant st) where
 
     limit-permitted : (th : Thread) (e : Event) (new : State) → Permitted N (report N E) (some th) (gives e) → Permitted N (report N E) (some th) (limit st e new .answer)
     unfolding limit
-    limit-permitted th e new p = cond-at (λ (x : Result). Permitted N (report N E) (some th) (x .answer)) (leb (length (new .threads)) 64 & leb (length (new .tuples)) 256) _ _ (λ b. p) (λ b. tt)
+    limit-permitted th e new p = cond-at (λ (x : Result). Permitted N (report N E) (some th) (x .answer)) (leb (length (new .threads)) 64 & leb (length (new .tuples)) 256) (λ b. p) (λ b. tt)
 
     finish-permitted : (guarded : Bool) (th : Thread) (pl : Plan) → PlanSafe th pl → Permitted N (report N E) (some th) (finish guarded st th pl .answer)
     unfolding finish
     finish-permitted guarded th (stop n) p = tt
     finish-permitted guarded th (quiet new) p = limit-permitted th silent new tt
-    finish-permitted guarded th (act t right new) p = cond-at (λ (x : Result). Permitted N (report N E) (some th) (x .answer)) (either (not guarded) (permits N th t right)) _ _ (λ b. limit-permitted th (performed (th .site) t right) new (used-permitted th t right (p .1))) (λ b. tt)
+    finish-permitted guarded th (act t right new) p = cond-at (λ (x : Result). Permitted N (report N E) (some th) (x .answer)) (either (not guarded) (permits N th t right)) (λ b. limit-permitted th (performed (th .site) t right) new (used-permitted th t right (p .1))) (λ b. tt)
 
     finish-same : report N E ≡ replicate 1024 0 → (th : Thread) (pl : Plan) → PlanSafe th pl → finish true st th pl ≡ finish false st th pl
     unfolding finish either

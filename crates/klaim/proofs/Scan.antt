@@ -1,0 +1,178 @@
+-- What a row is that has its form, and what holds of the rows that a text is read as.
+-- Assumes nothing.
+use mathlib.Core.Path.{_≡_, refl, sym, ap, subst, _∙_}
+use mathlib.Core.Bool.{Bool, true, false, false≢true}
+use mathlib.Core.List.{List, [], _∷_, _++_}
+use mathlib.Core.Option.{Option, none, some}
+use Prim.Native.Nat.{ℕ, suc, _+_, _<_, _≤_}
+use native.Mathlib.Omega.{arith}
+use lib.Dec.{eqb, leb, ltb}
+use lib.ListN.{length}
+use Rattle.sets.specs.Lists.{All, done, more, only, keep, empty, _∪_}
+use Rattle.sets.proofs.Lists.{and-l, and-r, imp-e, not-no, neither-l, neither-r, cond-at, eqb-eq, leb-le, nleb-lt, lt-ltb, all-at, all-i, ltb-lt, none-all, length-keep, All-append, All-turn}
+use Rattle.klaim.specs.Limits.{siteLimit}
+use Rattle.klaim.specs.Process.{template, clash}
+use Rattle.klaim.specs.Rows.{Row, groupN, groupR, groupT, groupQ, groupA, groupE, comma, split, _>>=_, given, otherwise, rowN, rowPair, rowD, rowTuple, rowL, rowB, rowLine, rowQ, rowForm, rowOf, rowsFrom, rowsOf}
+use Rattle.klaim.specs.Invariant.{allBelow}
+use Rattle.klaim.specs.Reader.{refused, gives, Text, aNet, anEstimate, anArrival, inLimits, ofGroup, full, over, headed, misplaced, sizeOf, siteCount, absent, Judged, bad, good, judge, scan, readRows, nth}
+
+-- what is read, if anything, has the property
+data Holds {A : Type 0} (P : A → Type 0) : Option A → Type 0 where
+  nothing : Holds P none
+  holds : {x : A} → P x → Holds P (some x)
+
+module _ {A : Type 0} where
+  given-holds : {P : A → Type 0} (b : Bool) {o : Option A} → Holds P o → Holds P (given b o)
+  unfolding given
+  given-holds true h = h
+  given-holds false h = nothing
+
+  otherwise-holds : {P : A → Type 0} {o p : Option A} → Holds P o → Holds P p → Holds P (otherwise o p)
+  unfolding otherwise
+  otherwise-holds nothing g = g
+  otherwise-holds (holds h) g = holds h
+
+module _ {A B : Type 0} where
+  then-holds : {P : B → Type 0} (o : Option A) {f : A → Option B} → ((x : A) → Holds P (f x)) → Holds P (o >>= f)
+  unfolding _>>=_
+  then-holds none h = nothing
+  then-holds (some x) h = h x
+
+-- a Q row's sorts are those of its line
+pub record Shaped (r : Row) : Type 0 where
+  pub line-row : r .group ≡ groupQ → r ≡ rowLine (nth (r .lines) 0) (r .process)
+
+-- a row of another group
+other : {r : Row} → eqb (r .group) groupQ ≡ false → Shaped r
+other {r} t = record { line-row = λ e. absurd (false≢true (sym t ∙ ap (λ (g : ℕ). eqb g groupQ) e)) }
+
+-- each form gives such rows
+form-shaped : (fs : List (List ℕ)) → Holds Shaped (rowForm fs)
+unfolding rowForm rowN rowPair rowD rowTuple rowL rowB rowLine rowQ
+form-shaped fs =
+    otherwise-holds (given-holds _ (given-holds _ (then-holds _ λ n. holds (other refl))))
+    (otherwise-holds (given-holds _ (pair groupR refl))
+    (otherwise-holds (given-holds _ (given-holds _ (then-holds _ λ k. then-holds _ λ t. then-holds _ λ r. holds (other refl))))
+    (otherwise-holds (given-holds _ (tuple groupT refl))
+    (otherwise-holds (given-holds _ (given-holds _ (then-holds _ λ s. then-holds _ λ q. holds (other refl))))
+    (otherwise-holds (given-holds _ (then-holds _ λ q. then-holds _ λ l. holds (record { line-row = λ e. refl })))
+    (otherwise-holds (given-holds _ (given-holds _ (then-holds _ λ u. then-holds _ λ s. holds (other refl))))
+    (otherwise-holds (given-holds _ (tuple groupA refl))
+    (given-holds _ (pair groupE refl)))))))))
+  where
+    pair : (g : ℕ) → eqb g groupQ ≡ false → Holds Shaped (rowPair g fs)
+    pair g e = given-holds _ (then-holds _ λ s. then-holds _ λ t. then-holds _ λ r. holds (other e))
+
+    tuple : (g : ℕ) → eqb g groupQ ≡ false → Holds Shaped (rowTuple g fs)
+    tuple g e = then-holds _ λ s. then-holds _ λ ts. holds (other e)
+
+rows-shaped : (ps : List (List ℕ)) → All (Holds Shaped) (rowsFrom ps)
+unfolding rowsFrom rowOf
+rows-shaped [] = done
+rows-shaped ([] ∷ []) = done
+rows-shaped ((b ∷ left) ∷ []) = more nothing done
+rows-shaped (piece ∷ next ∷ ps) = more (form-shaped (split comma piece)) (rows-shaped (next ∷ ps))
+
+-- a row that is let through below others
+pub record Fine (t : Text) (above : List Row) (r : Row) : Type 0 where
+  pub shaped : Shaped r
+  pub in-limits : inLimits r ≡ true
+  pub room : full t (r .group) (length (ofGroup (r .group) above)) ≡ false
+  pub first : headed t above r ≡ true
+  pub low : absent (siteCount t above) r ≡ false
+
+-- what is judged good, if anything, has the property
+data Passes (P : Row → Type 0) : Judged → Type 0 where
+  fails : {n : ℕ} → Passes P (bad n)
+  passes : {r : Row} → P r → Passes P (good r)
+
+judge-passes : (t : Text) (above : List Row) (o : Option Row) → Holds Shaped o → Passes (Fine t above) (judge t above o)
+unfolding judge over misplaced
+judge-passes t above none nothing = fails
+judge-passes t above (some r) (holds h) =
+    cond-at (Passes (Fine t above)) (over t above r) (λ t. fails) λ e.
+    cond-at (Passes (Fine t above)) (misplaced t above r) (λ t. fails) λ f.
+    cond-at (Passes (Fine t above)) (absent (siteCount t above) r) (λ t. fails) λ g.
+    cond-at (Passes (Fine t above)) (clash (template (r .process))) (λ t. fails) λ c.
+    passes (record {
+      shaped = h;
+      in-limits = not-no _ (neither-l _ _ e);
+      room = neither-r _ _ e;
+      first = and-l _ _ (not-no _ (neither-l _ _ f));
+      low = g;
+    })
+
+-- a refusal gives nothing
+pub refused-none : {A B : Type 0} {n row : ℕ} {x : A} → refused n row ≡ gives x → B
+refused-none e = let z : _≡_ {A = ℕ} 0 1 = cc in absurd (omega arith)
+
+-- what holds of no rows, and is kept by each row that is let through, holds of the rows of a text
+module _ (t : Text) (P : List Row → Type 0) (keeps : (above : List Row) (r : Row) → P above → Fine t above r → P (above ++ (r ∷ []))) {rows : List Row} where
+  scan-gives : (above : List Row) (os : List (Option Row)) → P above → All (Holds Shaped) os → scan t above os ≡ gives rows → P rows
+  unfolding scan
+  scan-gives above [] p done e = let q : above ≡ rows = cc in subst P q p
+  scan-gives above (o ∷ os) p (more q h) e = go (λ r z. scan-gives (above ++ (r ∷ [])) os z h) (judge-passes t above o q) e
+    where
+      go : ((r : Row) → P (above ++ (r ∷ [])) → scan t (above ++ (r ∷ [])) os ≡ gives rows → P rows) → {j : Judged} → Passes (Fine t above) j → elim j [ bad n ↦ refused n (suc (length above)) | good r ↦ scan t (above ++ (r ∷ [])) os ] ≡ gives rows → P rows
+      go ih fails e = refused-none e
+      go ih (passes {r = r} f) e = ih r (keeps above r p f) e
+
+  pub rows-give : P [] → (bytes : List ℕ) → readRows t bytes ≡ gives rows → P rows
+  unfolding readRows rowsOf
+  rows-give p bytes e = scan-gives [] _ p (rows-shaped _) e
+
+-- what is kept of a row, among n sites
+pub record RowOk (n : ℕ) (r : Row) : Type 0 where
+  pub shaped : Shaped r
+  pub in-limits : inLimits r ≡ true
+  pub low : allBelow n (r .sites) ≡ true
+
+-- one row more does not lessen n
+site-more : (t : Text) (above : List Row) (r : Row) → siteCount t above ≤ siteCount t (above ++ (r ∷ []))
+unfolding siteCount sizeOf
+site-more aNet [] r = omega arith
+site-more aNet (a ∷ above) r = omega arith
+site-more (anEstimate n) above r = omega arith
+site-more (anArrival n d) above r = omega arith
+
+-- so is each row of a text
+pub rows-ok : (t : Text) (bytes : List ℕ) {rows : List Row} → readRows t bytes ≡ gives rows → All (RowOk (siteCount t rows)) rows
+unfolding allBelow absent
+rows-ok t bytes e = rows-give t (λ rows. All (RowOk (siteCount t rows)) rows) keeps done bytes e
+  where
+    wider : (n m : ℕ) → n ≤ m → (r : Row) → RowOk n r → RowOk m r
+    wider n m h r k = record { shaped = k .shaped; in-limits = k .in-limits; low = all-i _ (r .sites) (λ s i. lt-ltb s m (omega (arith, ltb-lt s n (all-at _ i (k .low))))) }
+
+    keeps : (above : List Row) (r : Row) → All (RowOk (siteCount t above)) above → Fine t above r → All (RowOk (siteCount t (above ++ (r ∷ [])))) (above ++ (r ∷ []))
+    keeps above r h f =
+        let n = siteCount t above in
+        let new : RowOk n r = record { shaped = f .shaped; in-limits = f .in-limits; low = none-all (leb n) (λ s. ltb s n) (λ s e. lt-ltb s n (nleb-lt n s e)) (r .sites) (f .low) } in
+        All-turn (wider n _ (site-more t above r)) (All-append h (more new done))
+
+-- a group that is full at m has at most m rows
+pub rows-few : (t : Text) (g m : ℕ) → ((k : ℕ) → full t g k ≡ false → k < m) → (bytes : List ℕ) {rows : List Row} → readRows t bytes ≡ gives rows → length (ofGroup g rows) ≤ m
+unfolding ofGroup keep _∪_ only
+rows-few t g m h bytes e = rows-give t (λ rows. length (ofGroup g rows) ≤ m) keeps (omega arith) bytes e
+  where
+    go : (above : List Row) (r : Row) (b : Bool) → eqb (r .group) g ≡ b → length (ofGroup g above) ≤ m → Fine t above r → length (ofGroup g above) + length (only b r ∪ []) ≤ m
+    go above r true e p f = omega (arith, h _ (subst (λ (x : ℕ). full t x (length (ofGroup x above)) ≡ false) (eqb-eq e) (f .room)))
+    go above r false e p f = omega arith
+
+    keeps : (above : List Row) (r : Row) → length (ofGroup g above) ≤ m → Fine t above r → length (ofGroup g (above ++ (r ∷ []))) ≤ m
+    keeps above r p f = rw length-keep (go above r _ refl p f)
+
+-- n is in its limits, where there are rows
+abbrev Sized : List Row → Type 0
+Sized rows = empty rows ≡ false → (1 ≤ sizeOf rows) × (sizeOf rows ≤ siteLimit)
+
+-- of a net: its first row is N
+pub net-size : (bytes : List ℕ) {rows : List Row} → readRows aNet bytes ≡ gives rows → Sized rows
+unfolding empty sizeOf headed inLimits
+net-size bytes e = rows-give aNet Sized keeps (λ e. absurd (false≢true (sym e))) bytes e
+  where
+    keeps : (above : List Row) (r : Row) → Sized above → Fine aNet above r → Sized (above ++ (r ∷ []))
+    keeps [] r p f e =
+        let g : eqb (r .group) groupN ≡ true = imp-e _ _ (and-l _ _ (f .first)) refl in
+        let h = imp-e _ _ (and-l _ _ (f .in-limits)) g in
+        (leb-le _ _ (and-l _ _ h), leb-le _ _ (and-r _ _ h))
+    keeps (a ∷ above) r p f e = p refl
