@@ -6,10 +6,10 @@ use mathlib.Core.List.{List, [], _∷_, _++_, map}
 use mathlib.Core.Option.{Option, none, some}
 use Prim.Native.Nat.{ℕ, _<_}
 use native.Mathlib.Omega.{arith}
-use lib.Dec.{ltb}
+use lib.Dec.{leb, ltb}
 use lib.ListN.{length, take, drop, replicate}
 use lib.Seq.{take-at}
-use Rattle.sets.specs.Lists.{Elem, table}
+use Rattle.sets.specs.Lists.{Elem, _&_, either}
 use Rattle.sets.proofs.Lists.{cond-at, All-in}
 use Rattle.sets.proofs.Tables.{length-table}
 use Rattle.klaim.specs.Process.{Line}
@@ -18,14 +18,14 @@ use Rattle.klaim.specs.Reader.{Answer, refused, gives, andThen, World, r
 use Rattle.klaim.specs.Analysis.{Verdict, accepted, verdict}
 use Rattle.klaim.specs.Report.{report}
 use Rattle.klaim.specs.Check.{Checked, written, checkRead, check}
-use Rattle.klaim.specs.State.{State, begin, start}
-use Rattle.klaim.specs.Engine.{Result, bringRead, bring, step}
+use Rattle.klaim.specs.State.{Thread, State, begin, start}
+use Rattle.klaim.specs.Engine.{Event, silent, performed, Result, bringRead, bring, Plan, stop, quiet, act, permits, limit, finish, stepOf, step}
 use Rattle.klaim.specs.Invariant.{Invariant}
-use Rattle.klaim.specs.Demand3.{Call, bringing, bare, guarded, call, guard, run, acting, Permitted, Within, Safe, GuardsIdle, reportOf, Demand3, Statement}
+use Rattle.klaim.specs.Demand3.{Call, bringing, bare, guarded, call, guard, run, acting, Permitted, Within, Safe, GuardsIdle, reportOf, Demand3, Statement, Allowed, GuardStatement}
 use Rattle.klaim.proofs.Scan.{refused-none}
 use Rattle.klaim.proofs.Reader.{both-read}
 use Rattle.klaim.proofs.Invariant.{step-keeps, bring-keeps, start-gives}
-use Rattle.klaim.proofs.Safety.{Tracked, tracked-within, step-tracked, step-permitted, step-same, joined-tracked, begin-tracked}
+use Rattle.klaim.proofs.Safety.{permits-allows, Tracked, tracked-within, step-tracked, step-permitted, step-same, joined-tracked, begin-tracked}
 
 -- calls from a state that the analysis of N and E follows
 module _ (N : Net) (E : Estimate) where
@@ -123,3 +123,25 @@ demand3 net estimate buffer a =
   where
     roots-low : (p : Passed net estimate buffer (check net estimate buffer)) → (r : Root) → Elem r (p .world .net .roots) → r .site < 32
     roots-low p r j = let n = both-read net estimate (p .world) (p .read) .0 in omega (arith, All-in (n .roots-ok) j .placed, n .sites-few)
+
+-- a guarded step: 26 was tested
+limit-allowed : (st : State) (th : Thread) (e : Event) (new : State) → Allowed (st .net) (some th) (gives e) → Allowed (st .net) (some th) (limit st e new .answer)
+unfolding limit
+limit-allowed st th e new p = cond-at (λ (x : Result). Allowed (st .net) (some th) (x .answer)) (leb (length (new .threads)) 64 & leb (length (new .tuples)) 256) (λ b. p) (λ b. tt)
+
+finish-allowed : (st : State) (th : Thread) (pl : Plan) → Allowed (st .net) (some th) (finish true st th pl .answer)
+unfolding finish either
+finish-allowed st th (stop n) = tt
+finish-allowed st th (quiet new) = limit-allowed st th silent new tt
+finish-allowed st th (act t right new) =
+    cond-at (λ (x : Result). Allowed (st .net) (some th) (x .answer)) (permits (st .net) th t right)
+    (λ b. limit-allowed st th (performed (th .site) t right) new (permits-allows (st .net) th t right b)) (λ b. tt)
+
+stepOf-allowed : (st : State) (k m r : ℕ) (x : Option Thread) → Allowed (st .net) x (stepOf true st k m r x .answer)
+unfolding stepOf
+stepOf-allowed st k m r none = tt
+stepOf-allowed st k m r (some th) = finish-allowed st th _
+
+pub guard-holds : GuardStatement
+unfolding step
+guard-holds st k m r = stepOf-allowed st k m r _

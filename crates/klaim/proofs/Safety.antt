@@ -25,7 +25,7 @@ use Rattle.klaim.specs.Report.{reportAt, report, door}
 use Rattle.klaim.specs.State.{Bindings, Thread, State, unbound, isNil, settle, rootThread, begin}
 use Rattle.klaim.specs.Engine.{Event, silent, performed, Result, refuse, joined, value, bindAll, agrees, to, under, after, Plan, stop, quiet, act, getPlan, acceptPlan, plan, permits, limit, finish, stepOf, step}
 use Rattle.klaim.specs.Invariant.{allBelow, Invariant}
-use Rattle.klaim.specs.Demand3.{listed, Permitted, Within}
+use Rattle.klaim.specs.Demand3.{listed, forbids, Permitted, Within}
 use Rattle.klaim.proofs.Process.{tree-node, tree-old}
 use Rattle.klaim.proofs.Invariant.{Standing, standing, loc-ok, binds-low}
 use Rattle.klaim.proofs.Bindings.{LocOk, BindsLow}
@@ -35,6 +35,16 @@ getD-zeros : (n i : ℕ) → getD {A = ℕ} (replicate n 0) i 0 ≡ 0
 getD-zeros zero i = refl
 getD-zeros (suc n) zero = refl
 getD-zeros (suc n) (suc i) = getD-zeros n i
+
+-- what the guard tests is that neither policy forbids the right
+pub permits-allows : (N : Net) (th : Thread) (t right : ℕ) → permits N th t right ≡ true → forbids N th t right ≡ false
+unfolding permits forbids _&_ either
+permits-allows N th t right h = both (has (getD (th .policy) t 0) right) (has (home N (th .site) t) right) h
+  where
+    both : (a b : Bool) → a & b ≡ true → either (not a) (not b) ≡ false
+    both true true h = refl
+    both true false h = sym h
+    both false b h = sym h
 
 -- thread th among the lines ls is as the analysis of N and E says
 abbrev pub Sound : Net → Estimate → List Line → Thread → Type 0
@@ -169,7 +179,7 @@ module _ (st : State) (i : Invariant st) where
     used-permitted th t right u e = go (used-cases th t right u)
       where
         go : (permits N th t right ≡ true) ⊎ (listed (report N E) (th .site) t right ≡ true) → listed (report N E) (th .site) t right ≡ true
-        go (inl h) = absurd (false≢true (sym e ∙ h))
+        go (inl h) = absurd (false≢true (sym (permits-allows N th t right h) ∙ e))
         go (inr h) = h
 
     -- where the report is empty, both policies have it

@@ -1,20 +1,20 @@
 -- Demand 3: one claim about every list of calls (document 01, "The engine", last paragraph). The theorem is in proofs/Demand3.antt.
 -- Assumes nothing.
 use mathlib.Core.Path.{_≡_}
-use mathlib.Core.Bool.{Bool, true, false}
+use mathlib.Core.Bool.{Bool, true, false, not}
 use mathlib.Core.List.{List, [], _∷_, map}
 use mathlib.Core.Option.{Option, none, some}
 use Prim.Native.Nat.{ℕ, _+_, _*_}
 use lib.ListN.{getD, getElem?, take, replicate}
-use Rattle.sets.specs.Lists.{Elem, All}
+use Rattle.sets.specs.Lists.{Elem, All, either}
 use Rattle.sets.specs.Bits.{has, mem}
 use Rattle.klaim.specs.Limits.{reportSize}
-use Rattle.klaim.specs.Net.{Net, Estimate, may}
+use Rattle.klaim.specs.Net.{Net, Estimate, home, may}
 use Rattle.klaim.specs.Reader.{Answer, refused, gives}
 use Rattle.klaim.specs.Analysis.{accepted}
 use Rattle.klaim.specs.Check.{check}
 use Rattle.klaim.specs.State.{Thread, State, start}
-use Rattle.klaim.specs.Engine.{Event, brought, silent, performed, Result, permits, step, bring}
+use Rattle.klaim.specs.Engine.{Event, brought, silent, performed, Result, step, bring}
 
 -- a call: bring, with any bytes; a bare or a guarded step, with any numbers
 pub data Call : Type 0 where
@@ -48,14 +48,18 @@ acting st (guarded k m r) = getElem? (st .threads) k
 unfoldable pub listed : List ℕ → ℕ → ℕ → ℕ → Bool
 listed report s t right = has (getD report (32 * s + t) 0) right
 
--- (a) "Policies never forbid a silent step; they forbid any other performed one if, just before it, thread k's policy or the
--- home policy of its site lacks the answered right on the answered target": what they forbid, the report lists
+-- "they forbid any other performed one if, just before it, thread k's policy or the home policy of its site lacks the answered
+-- right on the answered target"
+unfoldable pub forbids : Net → Thread → ℕ → ℕ → Bool
+forbids N th t right = either (not (has (getD (th .policy) t 0) right)) (not (has (home N (th .site) t) right))
+
+-- (a) "Policies never forbid a silent step"; what else they forbid, the report lists
 abbrev pub Permitted : Net → List ℕ → Option Thread → Answer Event → Type 0
 Permitted N report th (refused n row) = Unit {0}
 Permitted N report th (gives (brought q)) = Unit {0}
 Permitted N report th (gives silent) = Unit {0}
 Permitted N report none (gives (performed s t right)) = ⊥
-Permitted N report (some th) (gives (performed s t right)) = permits N th t right ≡ false → listed report s t right ≡ true
+Permitted N report (some th) (gives (performed s t right)) = forbids N th t right ≡ true → listed report s t right ≡ true
 
 -- (b) "A tuple is within the estimate if an A row has it at its site, a thread's binding if a B row has it."
 pub record Within (E : Estimate) (st : State) : Type 0 where
@@ -86,3 +90,14 @@ pub record Demand3 (net estimate buffer : List ℕ) : Type 0 where
 -- the only premise: check accepts the two texts, so that they are read
 abbrev pub Statement : Type 0
 Statement = (net estimate buffer : List ℕ) → check net estimate buffer .answer ≡ gives accepted → Demand3 net estimate buffer
+
+-- beside it: what a guarded step performs, the policies do not forbid, whatever the state
+abbrev pub Allowed : Net → Option Thread → Answer Event → Type 0
+Allowed N th (refused n row) = Unit {0}
+Allowed N th (gives (brought q)) = Unit {0}
+Allowed N th (gives silent) = Unit {0}
+Allowed N none (gives (performed s t right)) = ⊥
+Allowed N (some th) (gives (performed s t right)) = forbids N th t right ≡ false
+
+abbrev pub GuardStatement : Type 0
+GuardStatement = (st : State) (k m r : ℕ) → Allowed (st .net) (getElem? (st .threads) k) (step true st k m r .answer)

@@ -12,4 +12,3 @@ pub mod Engine
 pub mod Invariant
 pub mod Listing
 pub mod Demand3
-pub mod Examples
