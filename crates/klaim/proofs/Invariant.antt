@@ -23,7 +23,7 @@ use Rattle.klaim.specs.Analysis.{matches}
 use Rattle.klaim.specs.Report.{door}
 use Rattle.klaim.specs.State.{Bindings, Thread, State, unbound, isNil, settle, homePolicy, boxPolicy, rootThread, begin, start}
 use Rattle.klaim.specs.Engine.{Event, silent, performed, Result, refuse, joined, bringRead, bring, value, bindAll, agrees, to, under, after, Plan, stop, quiet, act, getPlan, acceptPlan, plan, permits, limit, finish, stepOf, step}
-use Rattle.klaim.specs.Invariant.{allBelow, lineFits, ArrivalOk, ThreadOk, Invariant}
+use Rattle.klaim.specs.Invariant.{allBelow, lineFits, distinct, ArrivalOk, ThreadOk, Invariant}
 use Rattle.klaim.proofs.Reader.{RootOk, NetOk, EstimateOk, ArrivalRead, then-gives, arrival-read, both-read}
 use Rattle.klaim.proofs.Process.{child-line, tree-node, tree-old, free-new, ordered-join, used-free, child-free}
 use Rattle.klaim.proofs.Bindings.{BoundTo, Holds, Each, unbound-holds, BindsLow, bind-long, bind-holds, bind-kept, bind-new, each-all, LocOk, value-low}
@@ -54,12 +54,14 @@ pub record Loose (st : State) : Type 0 where
   pub lines-ordered : ordered (st .lines) ≡ true
   pub lines-fit : all (lineFits (st .net .size)) (st .lines) ≡ true
   pub stand-fit : all (allBelow (st .net .size)) (st .estimate .stand) ≡ true
+  pub stand-few : length (st .estimate .stand) ≤ 256
+  pub stand-distinct : distinct (st .estimate .stand) ≡ true
   pub tuples-fit : all (allBelow (st .net .size)) (st .tuples) ≡ true
   pub arrivals-ok : All (ArrivalOk (st .lines)) (st .arrivals)
   pub threads-ok : All (ThreadOk (st .net .size) (st .lines)) (st .threads)
 
 tighten : {st : State} → Loose st → length (st .threads) ≤ 64 → length (st .tuples) ≤ 256 → Invariant st
-tighten o a b = record { sites-some = o .sites-some; sites-few = o .sites-few; lines-few = o .lines-few; threads-few = a; tuples-few = b; lines-ordered = o .lines-ordered; lines-fit = o .lines-fit; stand-fit = o .stand-fit; tuples-fit = o .tuples-fit; arrivals-ok = o .arrivals-ok; threads-ok = o .threads-ok }
+tighten o a b = record { sites-some = o .sites-some; sites-few = o .sites-few; lines-few = o .lines-few; threads-few = a; tuples-few = b; lines-ordered = o .lines-ordered; lines-fit = o .lines-fit; stand-fit = o .stand-fit; stand-few = o .stand-few; stand-distinct = o .stand-distinct; tuples-fit = o .tuples-fit; arrivals-ok = o .arrivals-ok; threads-ok = o .threads-ok }
 
 after-ok : (st : State) (k : ℕ) (th : Thread) (new : List Thread) (ts : List (List ℕ)) → Invariant st → Standing (st .net .size) (st .lines) th → All (ThreadOk (st .net .size) (st .lines)) new → all (allBelow (st .net .size)) ts ≡ true → Loose (after st k th new ts)
 unfolding after
@@ -70,6 +72,8 @@ after-ok st k th new ts i s n t = record {
   lines-ordered = i .lines-ordered;
   lines-fit = i .lines-fit;
   stand-fit = i .stand-fit;
+  stand-few = i .stand-few;
+  stand-distinct = i .stand-distinct;
   tuples-fit = t;
   arrivals-ok = i .arrivals-ok;
   threads-ok = All-append (All-splice k (settle-ok (st .net .size) (st .lines) th s) (i .threads-ok)) n;
@@ -294,6 +298,8 @@ joined-ok st ms i a = record {
   lines-ordered = ordered-join (st .lines) ms (i .lines-ordered) (a .lines-ordered);
   lines-fit = all-append (lineFits n) (st .lines) moved (i .lines-fit) (all-map (lineFits n) (move d) ms (all-turn (lineFits n) _ ms (λ l t. fits-move n d l ∙ t) (a .lines-fit)));
   stand-fit = i .stand-fit;
+  stand-few = i .stand-few;
+  stand-distinct = i .stand-distinct;
   tuples-fit = i .tuples-fit;
   arrivals-ok = All-append (All-turn (arrival-old (st .lines) moved (i .lines-ordered)) (i .arrivals-ok)) (more new done);
   threads-ok = All-turn (thread-old n (st .lines) moved (i .lines-ordered)) (i .threads-ok);
@@ -358,6 +364,8 @@ begin-ok w n e = record {
   lines-ordered = n .lines-ordered;
   lines-fit = n .lines-fit;
   stand-fit = e .stand-fit;
+  stand-few = e .stand-few;
+  stand-distinct = e .stand-distinct;
   tuples-fit = n .tuples-fit;
   arrivals-ok = done;
   threads-ok = All-concat (λ r. settle (w .net .lines) (rootThread (w .net) r)) (λ r o. settle-ok (w .net .size) (w .net .lines) (rootThread (w .net) r) (root-stands (w .net) r o)) (n .roots-ok);

@@ -13,9 +13,9 @@ use Rattle.klaim.specs.Limits.{siteLimit, tupleLimit, threadLimit, lineL
 use Rattle.klaim.specs.Process.{Line, ordered, tree, free}
 use Rattle.klaim.specs.Rows.{Row, groupT, groupL, groupQ, groupA, rowLine}
 use Rattle.klaim.specs.Net.{Root, Net, Estimate}
-use Rattle.klaim.specs.Invariant.{allBelow, lineFits}
+use Rattle.klaim.specs.Invariant.{allBelow, lineFits, distinct}
 use Rattle.klaim.specs.Reader.{Answer, refused, gives, andThen, Text, aNet, anEstimate, anArrival, inLimits, ofGroup, present, full, siteCount, readRows, inTurn, namedOnce, rootsClosed, whole, nth, gather, rootOf, linesOf, netOf, estimateOf, wholeNet, readNet, readEstimate, readArrival, World, readBoth}
-use Rattle.klaim.proofs.Scan.{RowOk, refused-none, rows-ok, rows-few, net-size}
+use Rattle.klaim.proofs.Scan.{RowOk, refused-none, rows-ok, rows-few, rows-distinct, net-size}
 
 -- a root stands at a site, on a line, and has no free variable
 pub record RootOk (N : Net) (r : Root) : Type 0 where
@@ -43,6 +43,7 @@ pub record EstimateOk (n : ℕ) (E : Estimate) : Type 0 where
   pub binds-long : length (E .binds) ≡ 32
   pub stand-few : length (E .stand) ≤ tupleLimit
   pub stand-fit : all (allBelow n) (E .stand) ≡ true
+  pub stand-distinct : distinct (E .stand) ≡ true
   pub hold-long : length (E .hold) ≡ 1024
 
 -- what 1 to 8 leave of an arrival, among n sites and behind d lines
@@ -166,6 +167,7 @@ estimate-read n bytes E e =
       binds-long = length-table 32 _;
       stand-few = group-few (anEstimate n) bytes r _ groupA tupleLimit (λ k h. nleb-lt _ k h);
       stand-fit = sites-fit (anEstimate n) bytes r groupA;
+      stand-distinct = rows-distinct (anEstimate n) bytes r;
       hold-long = length-table 1024 _;
     })
 

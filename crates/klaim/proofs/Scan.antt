@@ -1,20 +1,20 @@
 -- What a row is that has its form, and what holds of the rows that a text is read as.
 -- Assumes nothing.
 use mathlib.Core.Path.{_≡_, refl, sym, ap, subst, _∙_}
-use mathlib.Core.Bool.{Bool, true, false, false≢true}
-use mathlib.Core.List.{List, [], _∷_, _++_}
+use mathlib.Core.Bool.{Bool, true, false, not, false≢true}
+use mathlib.Core.List.{List, [], _∷_, _++_, map, append-nil}
 use mathlib.Core.Option.{Option, none, some}
 use Prim.Native.Nat.{ℕ, suc, _+_, _<_, _≤_}
 use native.Mathlib.Omega.{arith}
 use lib.Dec.{eqb, leb, ltb}
 use lib.ListN.{length}
-use Rattle.sets.specs.Lists.{All, done, more, only, keep, empty, _∪_}
-use Rattle.sets.proofs.Lists.{and-l, and-r, imp-e, not-no, neither-l, neither-r, cond-at, eqb-eq, leb-le, nleb-lt, lt-ltb, all-at, all-i, ltb-lt, none-all, length-keep, All-append, All-turn}
+use Rattle.sets.specs.Lists.{Elem, first, later, All, done, more, _&_, either, any, only, keep, empty, same, _∪_}
+use Rattle.sets.proofs.Lists.{and-l, and-r, imp-e, not-no, neither-l, neither-r, cond-at, eqb-eq, eq-eqb, leb-le, nleb-lt, lt-ltb, all-at, all-i, ltb-lt, none-all, length-keep, All-append, All-turn, All-in, and-i, not-yes, any-none, any-snoc, same-eq, same-refl, map-out, keep-out, keep-snoc, map-append}
 use Rattle.klaim.specs.Limits.{siteLimit}
 use Rattle.klaim.specs.Process.{template, clash}
 use Rattle.klaim.specs.Rows.{Row, groupN, groupR, groupT, groupQ, groupA, groupE, comma, split, _>>=_, given, otherwise, rowN, rowPair, rowD, rowTuple, rowL, rowB, rowLine, rowQ, rowForm, rowOf, rowsFrom, rowsOf}
-use Rattle.klaim.specs.Invariant.{allBelow}
-use Rattle.klaim.specs.Reader.{refused, gives, Text, aNet, anEstimate, anArrival, inLimits, ofGroup, full, over, headed, misplaced, sizeOf, siteCount, absent, Judged, bad, good, judge, scan, readRows, nth}
+use Rattle.klaim.specs.Invariant.{allBelow, distinct}
+use Rattle.klaim.specs.Reader.{refused, gives, Text, aNet, anEstimate, anArrival, inLimits, ofGroup, full, over, headed, key, repeated, misplaced, sizeOf, siteCount, absent, Judged, bad, good, judge, scan, readRows, nth}
 
 -- what is read, if anything, has the property
 data Holds {A : Type 0} (P : A → Type 0) : Option A → Type 0 where
@@ -38,33 +38,37 @@ module _ {A B : Type 0} where
   then-holds none h = nothing
   then-holds (some x) h = h x
 
--- a Q row's sorts are those of its line
+-- a Q row's sorts are those of its line; an A row has sites alone
 pub record Shaped (r : Row) : Type 0 where
   pub line-row : r .group ≡ groupQ → r ≡ rowLine (nth (r .lines) 0) (r .process)
+  pub stand-row : r .group ≡ groupA → key r ≡ groupA ∷ (r .sites ∪ [])
+
+not-group : (g h : ℕ) {B : Type 0} → eqb g h ≡ false → g ≡ h → B
+not-group g h t e = absurd (false≢true (sym t ∙ ap (λ (x : ℕ). eqb g x) (sym e) ∙ eq-eqb g))
 
 -- a row of another group
-other : {r : Row} → eqb (r .group) groupQ ≡ false → Shaped r
-other {r} t = record { line-row = λ e. absurd (false≢true (sym t ∙ ap (λ (g : ℕ). eqb g groupQ) e)) }
+other : {r : Row} → eqb (r .group) groupQ ≡ false → eqb (r .group) groupA ≡ false → Shaped r
+other {r} t s = record { line-row = not-group _ _ t; stand-row = not-group _ _ s }
 
 -- each form gives such rows
 form-shaped : (fs : List (List ℕ)) → Holds Shaped (rowForm fs)
-unfolding rowForm rowN rowPair rowD rowTuple rowL rowB rowLine rowQ
+unfolding rowForm rowN rowPair rowD rowTuple rowL rowB rowLine rowQ key _∪_
 form-shaped fs =
-    otherwise-holds (given-holds _ (given-holds _ (then-holds _ λ n. holds (other refl))))
-    (otherwise-holds (given-holds _ (pair groupR refl))
-    (otherwise-holds (given-holds _ (given-holds _ (then-holds _ λ k. then-holds _ λ t. then-holds _ λ r. holds (other refl))))
+    otherwise-holds (given-holds _ (given-holds _ (then-holds _ λ n. holds (other refl refl))))
+    (otherwise-holds (given-holds _ (pair groupR refl refl))
+    (otherwise-holds (given-holds _ (given-holds _ (then-holds _ λ k. then-holds _ λ t. then-holds _ λ r. holds (other refl refl))))
     (otherwise-holds (given-holds _ (tuple groupT refl))
-    (otherwise-holds (given-holds _ (given-holds _ (then-holds _ λ s. then-holds _ λ q. holds (other refl))))
-    (otherwise-holds (given-holds _ (then-holds _ λ q. then-holds _ λ l. holds (record { line-row = λ e. refl })))
-    (otherwise-holds (given-holds _ (given-holds _ (then-holds _ λ u. then-holds _ λ s. holds (other refl))))
+    (otherwise-holds (given-holds _ (given-holds _ (then-holds _ λ s. then-holds _ λ q. holds (other refl refl))))
+    (otherwise-holds (given-holds _ (then-holds _ λ q. then-holds _ λ l. holds (record { line-row = λ e. refl; stand-row = not-group _ _ refl })))
+    (otherwise-holds (given-holds _ (given-holds _ (then-holds _ λ u. then-holds _ λ s. holds (other refl refl))))
     (otherwise-holds (given-holds _ (tuple groupA refl))
-    (given-holds _ (pair groupE refl)))))))))
+    (given-holds _ (pair groupE refl refl)))))))))
   where
-    pair : (g : ℕ) → eqb g groupQ ≡ false → Holds Shaped (rowPair g fs)
-    pair g e = given-holds _ (then-holds _ λ s. then-holds _ λ t. then-holds _ λ r. holds (other e))
+    pair : (g : ℕ) → eqb g groupQ ≡ false → eqb g groupA ≡ false → Holds Shaped (rowPair g fs)
+    pair g e h = given-holds _ (then-holds _ λ s. then-holds _ λ t. then-holds _ λ r. holds (other e h))
 
     tuple : (g : ℕ) → eqb g groupQ ≡ false → Holds Shaped (rowTuple g fs)
-    tuple g e = then-holds _ λ s. then-holds _ λ ts. holds (other e)
+    tuple g e = then-holds _ λ s. then-holds _ λ ts. holds (record { line-row = not-group _ _ e; stand-row = λ h. ap (λ (x : ℕ). x ∷ (s ∷ (ts ∪ []))) h })
 
 rows-shaped : (ps : List (List ℕ)) → All (Holds Shaped) (rowsFrom ps)
 unfolding rowsFrom rowOf
@@ -79,6 +83,7 @@ pub record Fine (t : Text) (above : List Row) (r : Row) : Type 0 where
   pub in-limits : inLimits r ≡ true
   pub room : full t (r .group) (length (ofGroup (r .group) above)) ≡ false
   pub first : headed t above r ≡ true
+  pub fresh : repeated above r ≡ false
   pub low : absent (siteCount t above) r ≡ false
 
 -- what is judged good, if anything, has the property
@@ -99,6 +104,7 @@ judge-passes t above (some r) (holds h) =
       in-limits = not-no _ (neither-l _ _ e);
       room = neither-r _ _ e;
       first = and-l _ _ (not-no _ (neither-l _ _ f));
+      fresh = neither-r _ _ f;
       low = g;
     })
 
@@ -160,6 +166,59 @@ rows-few t g m h bytes e = rows-give t (λ rows. length (ofGroup g rows) ≤ m) 
 
     keeps : (above : List Row) (r : Row) → length (ofGroup g above) ≤ m → Fine t above r → length (ofGroup g (above ++ (r ∷ []))) ≤ m
     keeps above r p f = rw length-keep (go above r _ refl p f)
+
+distinct-one : (t : List ℕ) → distinct (t ∷ []) ≡ true
+unfolding distinct any _&_
+distinct-one t = refl
+
+-- a tuple that none of the others equals may stand behind them
+distinct-snoc : (ts : List (List ℕ)) (t : List ℕ) → distinct ts ≡ true → ((s : List ℕ) → Elem s ts → same s t ≡ false) → distinct (ts ++ (t ∷ [])) ≡ true
+unfolding distinct
+distinct-snoc [] t d h = distinct-one t
+distinct-snoc (s ∷ ts) t d h =
+    and-i (ap not (any-snoc (same s) ts t (not-yes _ (and-l _ _ d)) (h s (first refl)))) (distinct-snoc ts t (and-r _ _ d) (λ x i. h x (later i)))
+
+-- the sites of an A row stand in none above
+fresh-sites : (t : Text) (above : List Row) (r : Row) → All Shaped above → Fine t above r → r .group ≡ groupA → (s : List ℕ) → Elem s (map (λ b. b .sites) (ofGroup groupA above)) → same s (r .sites) ≡ false
+unfolding repeated ofGroup _&_
+fresh-sites t above r h f g s i = go (map-out (λ b. b .sites) _ i)
+  where
+    unlike : any (λ b. same (key b) (key r)) above ≡ false
+    unlike = subst (λ (x : ℕ). not (eqb x groupQ) & any (λ b. same (key b) (key r)) above ≡ false) g (f .fresh)
+
+    alike : (b : Row) → Elem b above → b .group ≡ groupA → s ≡ b .sites → (x : Bool) → same s (r .sites) ≡ x → x ≡ false
+    alike b j q p false e = refl
+    alike b j q p true e =
+        let k : key b ≡ key r = All-in h j .stand-row q ∙ ap (λ (ss : List ℕ). groupA ∷ (ss ∪ [])) (sym p ∙ same-eq s (r .sites) e) ∙ sym (f .shaped .stand-row g) in
+        sym (subst (λ (ks : List ℕ). same ks (key r) ≡ true) (sym k) (same-refl (key r))) ∙ any-none (λ b. same (key b) (key r)) unlike j
+
+    go : ((b : Row) × Elem b (keep (λ b. eqb (b .group) groupA) above) × (s ≡ b .sites)) → same s (r .sites) ≡ false
+    go (b, k, p) = let (j, q) = keep-out (λ b. eqb (b .group) groupA) above k in alike b j (eqb-eq q) p _ refl
+
+-- the tuples of the A rows
+abbrev pub Tuples : List Row → List (List ℕ)
+Tuples rows = map (λ r. r .sites) (ofGroup groupA rows)
+
+-- one row more
+tuples-snoc : (t : Text) (above : List Row) (r : Row) → All Shaped above → distinct (Tuples above) ≡ true → Fine t above r → (b : Bool) → eqb (r .group) groupA ≡ b → distinct (Tuples above ++ map (λ r. r .sites) (only b r)) ≡ true
+unfolding only
+tuples-snoc t above r h d f true e = distinct-snoc (Tuples above) (r .sites) d (fresh-sites t above r h f (eqb-eq e))
+tuples-snoc t above r h d f false e = subst (λ (ts : List (List ℕ)). distinct ts ≡ true) (sym (append-nil (Tuples above))) d
+
+tuples-more : (above : List Row) (r : Row) → Tuples (above ++ (r ∷ [])) ≡ Tuples above ++ map (λ r. r .sites) (only (eqb (r .group) groupA) r)
+unfolding ofGroup
+tuples-more above r = ap (map (λ r. r .sites)) (keep-snoc (λ r. eqb (r .group) groupA) above r) ∙ map-append (λ r. r .sites) (keep (λ r. eqb (r .group) groupA) above) (only (eqb (r .group) groupA) r)
+
+no-tuples : distinct (Tuples []) ≡ true
+unfolding ofGroup keep distinct
+no-tuples = refl
+
+-- no A row is repeated
+pub rows-distinct : (t : Text) (bytes : List ℕ) {rows : List Row} → readRows t bytes ≡ gives rows → distinct (Tuples rows) ≡ true
+rows-distinct t bytes e = rows-give t (λ rows. All Shaped rows × (distinct (Tuples rows) ≡ true)) keeps (done, no-tuples) bytes e .1
+  where
+    keeps : (above : List Row) (r : Row) → All Shaped above × (distinct (Tuples above) ≡ true) → Fine t above r → All Shaped (above ++ (r ∷ [])) × (distinct (Tuples (above ++ (r ∷ []))) ≡ true)
+    keeps above r k f = (All-append (k .0) (more (f .shaped) done), ap distinct (tuples-more above r) ∙ tuples-snoc t above r (k .0) (k .1) f _ refl)
 
 -- n is in its limits, where there are rows
 abbrev Sized : List Row → Type 0

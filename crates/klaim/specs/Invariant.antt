@@ -1,13 +1,13 @@
 -- The invariant of an engine state: every start gives it, every call keeps it (proofs/Invariant.antt).
 -- Assumes nothing.
 use mathlib.Core.Path.{_≡_}
-use mathlib.Core.Bool.{Bool, true, false}
-use mathlib.Core.List.{List}
+use mathlib.Core.Bool.{Bool, true, false, not}
+use mathlib.Core.List.{List, [], _∷_}
 use mathlib.Core.Option.{Option, none, some}
 use Prim.Native.Nat.{ℕ, _<_, _≤_}
 use lib.Dec.{ltb}
 use lib.ListN.{length, getD}
-use Rattle.sets.specs.Lists.{Elem, All, _&_, all, concat, empty, _∪_}
+use Rattle.sets.specs.Lists.{Elem, All, _&_, all, any, concat, empty, same, _∪_}
 use Rattle.klaim.specs.Limits.{siteLimit, varLimit, boxLimit, threadLimit, tupleLimit, lineLimit}
 use Rattle.klaim.specs.Process.{Line, lineAt, boxesOf, slotsOf, sitesIn, usedIn, boundIn, ordered, tree, free}
 use Rattle.klaim.specs.State.{Thread, State, isNil}
@@ -22,6 +22,11 @@ lineFits n l =
     allBelow n (concat sitesIn (slotsOf l))
     & allBelow varLimit (concat usedIn (slotsOf l) ∪ concat boundIn (slotsOf l))
     & allBelow boxLimit (boxesOf l)
+
+-- what 3 leaves of A rows: no two are equal
+unfoldable pub distinct : List (List ℕ) → Bool
+distinct [] = true
+distinct (t ∷ ts) = not (any (same t) ts) & distinct ts
 
 -- an arrival's root is a line, and what 8 leaves of it
 pub record ArrivalOk (ls : List Line) (r : ℕ) : Type 0 where
@@ -47,6 +52,8 @@ pub record Invariant (st : State) : Type 0 where
   pub lines-ordered : ordered (st .lines) ≡ true
   pub lines-fit : all (lineFits (st .net .size)) (st .lines) ≡ true
   pub stand-fit : all (allBelow (st .net .size)) (st .estimate .stand) ≡ true
+  pub stand-few : length (st .estimate .stand) ≤ tupleLimit
+  pub stand-distinct : distinct (st .estimate .stand) ≡ true
   pub tuples-fit : all (allBelow (st .net .size)) (st .tuples) ≡ true
   pub arrivals-ok : All (ArrivalOk (st .lines)) (st .arrivals)
   pub threads-ok : All (ThreadOk (st .net .size) (st .lines)) (st .threads)
