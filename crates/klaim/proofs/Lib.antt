@@ -6,3 +6,4 @@ pub mod Invariant
 pub mod Flow
 pub mod Safety
 pub mod Demand3
+pub mod Ready
