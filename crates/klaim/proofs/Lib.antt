@@ -7,3 +7,4 @@ pub mod Flow
 pub mod Safety
 pub mod Demand3
 pub mod Ready
+pub mod Choices
