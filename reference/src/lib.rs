@@ -1,0 +1,9 @@
+//! Second implementation of the KLAIM checker, door and engine, written from
+//! document 01 and the list of decided readings alone. The proved programs
+//! are compared with it; it shares no code with them.
+
+pub mod engine;
+pub mod flow;
+pub mod listing;
+pub mod rows;
+pub mod script;

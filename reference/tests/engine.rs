@@ -1,0 +1,275 @@
+//! Engine scripts: net M with two arrivals, full lists, bring and bindings.
+
+mod common;
+use common::*;
+use reference::engine::State;
+use reference::script;
+
+fn run(net: &str, estimate: &str, commands: &str) -> Vec<String> {
+    let input = format!("{}.\n{}.\n{}", rows(net), rows(estimate), rows(commands));
+    lines_of(&script::run(input.as_bytes()))
+}
+
+fn lines_of(out: &[u8]) -> Vec<String> {
+    String::from_utf8(out.to_vec()).unwrap().lines().map(str::to_string).collect()
+}
+
+/// Runs commands and compares each answer; gives back the rows of the state.
+fn expect(net: &str, estimate: &str, commands: &[(&str, &str)]) -> Vec<String> {
+    let words: Vec<&str> = commands.iter().map(|(command, _)| *command).collect();
+    let out = run(net, estimate, &words.join(" "));
+    assert_eq!(out[0], "started");
+    for (at, (command, answer)) in commands.iter().enumerate() {
+        assert_eq!(out[at + 1], *answer, "command {at}: {command}");
+    }
+    out[commands.len() + 1..].to_vec()
+}
+
+const BRING_READER: &str = "bring Q,0,rep,1 Q,1,read,2,s2,s3,!u1 Q,2,nil .";
+const BRING_WRITER: &str = "bring Q,0,out,1,s0,s4 Q,1,nil .";
+
+#[test]
+fn net_m_with_two_arrivals() {
+    let mut commands = vec![
+        ("ready", "ready,0"),
+        ("guarded,0,0,0", "performed,s0,s1,e"),
+        ("step,64,0,0", "refused,21,0"),
+        ("step,0,256,0", "refused,22,0"),
+        ("step,0,0,0", "refused,23,0"),
+        ("step,1,0,0", "refused,24,0"),
+        (BRING_READER, "brought,8"),
+        (BRING_WRITER, "brought,11"),
+        ("door,8,1,1", "passes"),
+        ("door,11,1,1", "closed"),
+        ("door,9,6,32", "refused,24,0"),
+        ("door,8,6,32", "refused,4,0"),
+        ("door,8,1,32", "refused,2,0"),
+        ("step,1,0,11", "refused,25,0"),
+        ("guarded,1,0,8", "refused,26,0"),
+        ("guarded,2,1,0", "performed,s1,s2,r"),
+        ("guarded,2,0,0", "performed,s1,s0,o"),
+        ("step,1,0,8", "performed,s1,s1,a"),
+    ];
+    commands.extend([("step,1,0,0", "silent"); 62]);
+    commands.extend([
+        ("step,1,0,0", "refused,27,0"),
+        ("ready", "ready,0"),
+        ("guarded,0,2,0", "performed,s0,s0,i"),
+        ("ready", "ready,0"),
+        ("guarded,0,0,0", "silent"),
+        ("guarded,0,0,0", "refused,27,0"),
+        ("guarded,63,1,0", "performed,s1,s2,r"),
+    ]);
+    let state = expect(NET_M, ESTIMATE_M, &commands);
+    assert_eq!(state[0], "state,63,2,13");
+    let policy = format!("0000{:02x}{}", 5, "00".repeat(29));
+    assert_eq!(state[1], format!("thread,s1,{policy},8,-"));
+    assert_eq!(state[63], format!("thread,s1,{policy},9,-"));
+    let rest = ["tuple,s2,s3,s4", "tuple,s2,s3,s5", "lines,13", "roots,8,11"];
+    assert_eq!(state[64..], rest);
+}
+
+#[test]
+fn start_is_refused_as_the_check() {
+    assert_eq!(run("N,33", "", "ready"), ["refused,2,1"]);
+    assert_eq!(run("N,1", "X", "ready"), ["refused,1,1"]);
+    assert_eq!(
+        run("N,1 T,s0,s0", "", ""),
+        ["started", "state,0,1,0", "tuple,s0,s0", "lines,0", "roots"]
+    );
+}
+
+#[test]
+fn nil_roots_have_no_thread() {
+    let state =
+        expect("N,1 L,s0,1 L,s0,0 Q,0,nil Q,1,rep,2 Q,2,nil", "", &[("step,0,0,0", "silent")]);
+    let policy = "00".repeat(32);
+    assert_eq!(state[..2], ["state,1,0,3".to_string(), format!("thread,s0,{policy},1,-")]);
+}
+
+#[test]
+fn bring_refusals() {
+    let state = expect(
+        "N,2 L,s0,0 Q,0,nil",
+        "",
+        &[
+            ("bring .", "refused,5,0"),
+            ("bring Q,0,nil X .", "refused,1,2"),
+            ("bring Q,0,rep,256 .", "refused,2,1"),
+            ("bring Q,0,nil N,2 .", "refused,3,2"),
+            ("bring Q,0,out,1,s2,s0 .", "refused,4,1"),
+            ("bring Q,1,nil .", "refused,5,0"),
+            ("bring Q,0,rep,0 .", "refused,5,0"),
+            ("bring Q,0,nil Q,1,nil .", "refused,6,0"),
+            ("bring Q,0,in,1,s0,!u2,!u2 .", "refused,7,1"),
+            ("bring Q,0,out,1,u3,s0 Q,1,nil .", "refused,8,0"),
+            ("bring Q,0,par,1,2 Q,1,nil Q,2,nil .", "brought,1"),
+        ],
+    );
+    assert_eq!(state, ["state,0,0,4", "lines,4", "roots,1"]);
+}
+
+#[test]
+fn bring_past_all_lines() {
+    let chain: String = (0..254).map(|at| format!("Q,{at},rep,{} ", at + 1)).collect();
+    let net = format!("N,1 L,s0,0 {chain} Q,254,nil");
+    expect(
+        &net,
+        "",
+        &[
+            ("bring Q,0,rep,1 Q,1,nil .", "refused,2,2"),
+            ("bring Q,0,rep,1 T,s0,s0 .", "refused,3,2"),
+            ("bring Q,0,nil .", "brought,255"),
+            ("bring Q,0,nil .", "refused,2,1"),
+            ("bring .", "refused,5,0"),
+            ("bring Q,9,x .", "refused,1,1"),
+        ],
+    );
+}
+
+#[test]
+fn rebinding_and_copies() {
+    let net = "N,3 T,s0,s1 T,s1,s2 T,s2,s0 L,s0,0 Q,0,in,1,s0,!u0 Q,1,in,2,u0,!u0 \
+        Q,2,eval,3,u0,5,0 Q,3,out,4,s0,u0,self Q,4,nil Q,5,read,6,self,!u1 Q,6,out,7,u1,u0,self Q,7,nil";
+    let state = expect(
+        net,
+        "",
+        &[
+            ("step,0,1,0", "refused,23,0"),
+            ("step,0,0,0", "performed,s0,s0,i"),
+            ("step,0,0,0", "performed,s0,s1,i"),
+            ("step,0,0,0", "performed,s0,s2,e"),
+            ("step,1,0,0", "performed,s2,s2,r"),
+            ("step,0,0,0", "performed,s0,s0,o"),
+        ],
+    );
+    let policy = "00".repeat(32);
+    let thread = format!("thread,s2,{policy},6,u0=s2 u1=s0");
+    assert_eq!(state[..4], ["state,1,2,8", &thread, "tuple,s2,s0", "tuple,s0,s2,s0"]);
+}
+
+/// The door looks into eval bodies, against their own sandbox.
+#[test]
+fn door_and_eval_lines() {
+    expect(
+        "N,2 D,0,s1,e D,1,s0,r L,s0,0 Q,0,accept,1,0 Q,1,nil",
+        "A,s0,s0 E,s1,s0,r",
+        &[
+            ("bring Q,0,eval,1,s1,2,1 Q,1,nil Q,2,nil .", "brought,2"),
+            ("bring Q,0,eval,1,s1,2,1 Q,1,nil Q,2,read,3,s0,s0 Q,3,nil .", "brought,5"),
+            ("bring Q,0,eval,1,s1,2,1 Q,1,nil Q,2,out,3,s0,s0 Q,3,nil .", "brought,9"),
+            ("bring Q,0,eval,1,s1,2,0 Q,1,nil Q,2,nil .", "brought,13"),
+            ("bring Q,0,eval,1,s1,2,1 Q,1,nil Q,2,read,3,s0,!u0 Q,3,nil .", "brought,16"),
+            ("door,2,0,0", "passes"),
+            ("door,5,0,0", "passes"),
+            ("door,9,0,0", "closed"),
+            // Sandbox 0 at s1 holds nothing, for lack of a row `self`.
+            ("door,13,0,0", "passes"),
+            ("door,16,0,0", "closed"),
+            ("door,2,1,0", "closed"),
+            ("step,0,0,9", "refused,25,0"),
+            ("step,0,0,5", "performed,s0,s0,a"),
+        ],
+    );
+}
+
+/// The bodies' sandboxes hold r and o on s0; the home policy of s1 holds o
+/// and i.
+#[test]
+fn guarded_steps_need_both_policies() {
+    let net = "N,2 R,s0,s1,e R,s1,s0,oi D,0,s0,or T,s0,s0 L,s0,0 Q,0,eval,1,s1,2,0 Q,1,nil \
+        Q,2,par,3,5 Q,3,read,4,s0,!u0 Q,4,nil Q,5,par,6,8 Q,6,in,7,s0,!u0 Q,7,nil \
+        Q,8,out,9,s0,s1 Q,9,nil";
+    expect(
+        net,
+        "",
+        &[
+            ("guarded,0,0,0", "performed,s0,s1,e"),
+            ("guarded,0,0,0", "silent"),
+            ("guarded,1,0,0", "silent"),
+            ("guarded,0,0,0", "refused,26,0"),
+            ("guarded,1,0,0", "refused,26,0"),
+            ("guarded,2,0,0", "performed,s1,s0,o"),
+            ("step,0,0,0", "performed,s1,s0,r"),
+            ("step,0,0,0", "performed,s1,s0,i"),
+        ],
+    );
+}
+
+#[test]
+fn full_tuple_list() {
+    let tuples: String = (0..256).map(|at| format!("T,s{},s{} ", at / 16, at % 16)).collect();
+    let net = format!(
+        "N,16 R,s0,s0,o {tuples} L,s0,0 L,s1,2 Q,0,out,1,s0,s0 Q,1,nil Q,2,in,3,s3,!u0 Q,3,nil"
+    );
+    expect(
+        &net,
+        "",
+        &[
+            ("step,0,0,0", "refused,27,0"),
+            ("guarded,0,0,0", "refused,27,0"),
+            ("ready", "ready,1"),
+            ("guarded,1,48,0", "refused,26,0"),
+            ("step,1,48,0", "performed,s1,s3,i"),
+            ("ready", "ready,0"),
+            ("step,0,255,0", "performed,s0,s0,o"),
+            ("ready", "ready,none"),
+        ],
+    );
+}
+
+#[test]
+fn full_thread_list_and_nil() {
+    let roots: String = (0..64).map(|at| format!("L,s0,{at} ")).collect();
+    let mut lines = String::from("Q,0,par,64,65 Q,1,rep,66 Q,2,accept,67,0 Q,3,eval,68,s0,69,0 ");
+    lines.extend((4..64).map(|at| format!("Q,{at},rep,{} ", at + 66)));
+    lines.push_str("Q,64,nil Q,65,rep,130 Q,66,nil Q,67,rep,131 Q,68,rep,132 Q,69,nil ");
+    lines.extend((70..133).map(|at| format!("Q,{at},nil ")));
+    let net = format!("N,1 {roots}{lines}");
+    expect(
+        &net,
+        "",
+        &[
+            ("bring Q,0,rep,1 Q,1,nil .", "brought,133"),
+            ("bring Q,0,nil .", "brought,135"),
+            ("step,2,0,133", "refused,27,0"),
+            ("step,2,0,135", "performed,s0,s0,a"),
+            ("step,1,0,0", "silent"),
+            ("step,3,0,0", "performed,s0,s0,e"),
+            ("step,0,0,0", "silent"),
+            ("ready", "ready,0"),
+        ],
+    );
+}
+
+#[test]
+fn commands_of_odd_form() {
+    let net = "N,1 L,s0,0 Q,0,rep,1 Q,1,nil";
+    expect(
+        net,
+        "",
+        &[
+            ("step,0,0", "bad command"),
+            ("step,0,0,0,0", "bad command"),
+            ("step,,0,0", "bad command"),
+            ("step,-1,0,0", "bad command"),
+            ("ready,", "bad command"),
+            ("step,99999999999999999999999999,0,0", "refused,21,0"),
+            ("step,0,99999999999999999999999999,18446744073709551616", "silent"),
+            ("door,256,0,0", "refused,24,0"),
+        ],
+    );
+}
+
+#[test]
+fn refused_calls_change_nothing() {
+    let mut state = State::start(rows(NET_M).as_bytes(), rows(ESTIMATE_M).as_bytes()).unwrap();
+    let before = state.clone();
+    assert!(state.step(64, 0, 0).is_err());
+    assert!(state.step(1, 0, 0).is_err());
+    assert!(state.bring(b"Q,0,rep,1\n").is_err());
+    assert!(state.bring(b"Q,0,nil\nQ").is_err());
+    assert_eq!(state, before);
+    assert!(state.guarded_step(0, 0, 0).is_ok());
+    assert_ne!(state, before);
+}

@@ -1,0 +1,122 @@
+//! The nine examples that document 01 marks as proved, and the small cases
+//! around them.
+
+mod common;
+use common::*;
+use reference::flow::{check, Answer, REPORT_BYTES};
+use reference::rows::Refusal;
+
+const USE_REST: &str = "U,s2,0,0,0 U,s3,0,0,0 U,s4,0,0,0 U,s5,0,0,0";
+
+#[test]
+fn net_m() {
+    let expected = format!("accepted,1 V,s1,s1,a U,s0,2,2,1000 U,s1,4,3,750 {USE_REST}");
+    assert_eq!(listing(NET_M, ESTIMATE_M), expected);
+}
+
+#[test]
+fn net_m_with_right_to_accept() {
+    let net = NET_M.replace("R,s1,s0,o ", "R,s1,s0,o R,s1,s1,a ");
+    let expected = format!("accepted,0 U,s0,2,2,1000 U,s1,5,4,800 {USE_REST}");
+    assert_eq!(listing(&net, ESTIMATE_M), expected);
+}
+
+#[test]
+fn net_m_without_one_estimate_row() {
+    assert_eq!(listing(NET_M, &without(ESTIMATE_M, "A,s0,s5")), "broken,Q,4");
+    assert_eq!(listing(NET_M, &without(ESTIMATE_M, "B,u1,s5")), "broken,Q,3");
+    assert_eq!(listing(NET_M, &without(ESTIMATE_M, "A,s2,s3,s4")), "broken,T,0");
+    assert_eq!(listing(NET_M, &without(ESTIMATE_M, "E,s1,s2,r")), "broken,Q,0");
+}
+
+#[test]
+fn only_an_n_row() {
+    let sites: Vec<String> = (0..32).map(|site| format!("U,s{site},0,0,0")).collect();
+    assert_eq!(text_listing("N,32\n"), format!("accepted,0 {}", sites.join(" ")));
+    assert_eq!(text_listing("N,33\n"), "refused,2,1");
+}
+
+#[test]
+fn empty_net() {
+    assert_eq!(text_listing(""), "refused,3,1");
+    assert_eq!(text_listing(".\n"), "refused,3,1");
+}
+
+#[test]
+fn report_buffer() {
+    let (net, estimate) = (rows(NET_M), rows(ESTIMATE_M));
+    let mut buffer = [7; REPORT_BYTES + 5];
+    let answer = check(net.as_bytes(), estimate.as_bytes(), &mut buffer);
+    assert_eq!(answer, Answer::Accepted);
+    let mut expected = [0; REPORT_BYTES + 5];
+    expected[32 + 1] = 16;
+    expected[REPORT_BYTES..].fill(7);
+    assert_eq!(buffer, expected);
+}
+
+#[test]
+fn nothing_written_unless_accepted() {
+    let (net, estimate) = (rows(NET_M), rows(&without(ESTIMATE_M, "A,s0,s5")));
+    let mut buffer = [7; REPORT_BYTES];
+    let answer = check(net.as_bytes(), estimate.as_bytes(), &mut buffer);
+    assert!(matches!(answer, Answer::Broken(_)));
+    assert_eq!(buffer, [7; REPORT_BYTES]);
+}
+
+#[test]
+fn short_buffer_comes_first() {
+    let mut buffer = [7; REPORT_BYTES - 1];
+    let answer = check(b"", b"", &mut buffer);
+    assert_eq!(answer, Answer::Refused(Refusal { number: 9, row: 0 }));
+    assert_eq!(buffer, [7; REPORT_BYTES - 1]);
+}
+
+#[test]
+fn input_size() {
+    let filler = "N,1\n".repeat(65_536 / 4);
+    assert_eq!(text_listing(&filler), "refused,3,2");
+    assert_eq!(text_listing(&format!("{filler}\n")), "refused,2,0");
+}
+
+/// "Joining d(l) with d(self)" and "the union over a reach" are errors: the
+/// body may use r on s0 at s0 only with a `self` row, and on both sites of
+/// the reach only what is sure.
+#[test]
+fn sandbox_at_its_own_site() {
+    let net = "N,2 R,s0,s0,ire D,0,s0,r T,s0,s0 L,s0,0 Q,0,eval,1,s0,2,0 Q,1,nil Q,2,read,3,s0,s0 Q,3,nil";
+    let accepted = listing(net, "A,s0,s0");
+    assert_eq!(accepted, "accepted,1 V,s0,s0,r U,s0,3,1,333 U,s1,0,0,0");
+    let with_own = net.replace("D,0,s0,r", "D,0,s0,r D,0,self,or");
+    assert_eq!(listing(&with_own, "A,s0,s0"), "broken,Q,0");
+    let accepted = listing(&with_own, "A,s0,s0 E,s0,s0,r");
+    assert_eq!(accepted, "accepted,0 U,s0,3,2,666 U,s1,0,0,0");
+}
+
+#[test]
+fn sure_rights_over_a_reach() {
+    let net = "N,2 R,s0,s0,ire R,s0,s1,ire D,0,s0,r D,0,s1,r T,s0,s0 T,s0,s1 L,s0,0 \
+        Q,0,read,1,s0,!u0 Q,1,eval,2,u0,3,0 Q,2,nil Q,3,read,4,s0,s1 Q,4,nil";
+    let estimate = "B,u0,s0 B,u0,s1 A,s0,s0 A,s0,s1 E,s0,s0,r E,s0,s1,r E,s1,s0,r E,s1,s1,r";
+    let accepted = listing(net, estimate);
+    let expected = "accepted,3 V,s0,s0,r V,s1,s0,r V,s1,s1,r U,s0,6,4,666 U,s1,0,0,0";
+    assert_eq!(accepted, expected);
+    // The sandbox evaluated at s1 holds r on s0: E rows of s0 must have it.
+    assert_eq!(listing(net, &without(estimate, "E,s0,s0,r")), "broken,Q,1");
+}
+
+#[test]
+fn empty_reach_demands_nothing() {
+    let net = "N,2 L,s0,0 Q,0,read,1,s0,!u0 Q,1,out,2,s0,s1,u0 Q,2,eval,3,u0,4,0 Q,3,nil \
+        Q,4,out,5,s1,s1 Q,5,nil";
+    assert_eq!(listing(net, ""), "broken,Q,4");
+    let accepted = listing(net, "A,s1,s1");
+    assert_eq!(accepted, "accepted,2 V,s0,s0,or U,s0,0,0,0 U,s1,0,0,0");
+}
+
+/// The out rule with more choices than there can be A rows.
+#[test]
+fn many_choices() {
+    let net = "N,32 L,s0,0 Q,0,read,1,s1,!u0 Q,1,out,2,u0,u0,u0,u0,u0 Q,2,nil";
+    let binds: Vec<String> = (0..32).map(|site| format!("B,u0,s{site}")).collect();
+    assert_eq!(listing(net, &binds.join(" ")), "broken,Q,1");
+}

@@ -1,0 +1,212 @@
+//! The small inputs of the table of refusal numbers, and the decided
+//! readings about texts.
+
+mod common;
+use common::*;
+
+fn net(words: &str) -> String {
+    listing(words, "")
+}
+
+#[test]
+fn table() {
+    assert_eq!(net("N,2 R,s0,s1"), "refused,1,2");
+    assert_eq!(net("N,33"), "refused,2,1");
+    assert_eq!(net("N,1 L,s0,0 T,s0,s0 Q,0,nil"), "refused,3,3");
+    assert_eq!(net("N,2 T,s2,s0"), "refused,4,2");
+    assert_eq!(net("N,1 L,s0,0 Q,0,rep,0"), "refused,5,0");
+    assert_eq!(net("N,2 L,s0,0 L,s1,0 Q,0,nil"), "refused,6,0");
+    assert_eq!(net("N,1 L,s0,0 Q,0,in,1,s0,!u2,u2 Q,1,nil"), "refused,7,3");
+    assert_eq!(net("N,1 L,s0,0 Q,0,out,1,u3,s0 Q,1,nil"), "refused,8,0");
+    assert_eq!(net("N,1 Q,0,out,1,u3,s0 Q,1,nil"), "refused,6,0");
+}
+
+/// Rows that have the form of no group.
+const MALFORMED: &[&str] = &[
+    "N",
+    "N,",
+    "N,01",
+    "N,1000",
+    "N,1,",
+    "N,-1",
+    "n,1",
+    "X,1",
+    ".",
+    "R,s0,s0,",
+    "R,s0,s0,io",
+    "R,s0,s0,oo",
+    "R,s0,self,o",
+    "R,u0,s0,o",
+    "D,0,u0,o",
+    "D,s0,s0,o",
+    "T,s0",
+    "T,s0,",
+    "T,s0,s0,s0,s0,s0,s0",
+    "T,s0,self",
+    "T,s0,s0\r",
+    "L,0,0",
+    "L,s0,s0",
+    "Q,0",
+    "Q,0,",
+    "Q,0,nil,",
+    "Q,0,par,1",
+    "Q,0,par,1,2,3",
+    "Q,0,rep",
+    "Q,0,out,1,s0",
+    "Q,0,out,1,s0,!u0",
+    "Q,0,out,1,!u0,s0",
+    "Q,0,in,1,!u0,s0",
+    "Q,0,in,1,s0,!s0",
+    "Q,0,in,1,s0,s0,s0,s0,s0,s0",
+    "Q,0,eval,1,s0,2",
+    "Q,0,eval,1,s0,2,s0",
+    "Q,0,accept,1",
+    "Q,0,new,1",
+    "Q,0,nil0",
+    "Q,0,out,1,selfs,s0",
+    "Q,00,nil",
+    "B,0,s0",
+    "B,u0,u0",
+    "A,s0",
+    "E,s0,s0,",
+    "E,s0,self,o",
+    "Q,0,in,1,s0,! u0",
+    "T, s0,s0",
+    " T,s0,s0",
+    "T,s0,s0 ",
+    ",",
+    "s",
+    "Q,0,out,s0,s0",
+];
+
+#[test]
+fn forms() {
+    for row in MALFORMED {
+        assert_eq!(
+            text_listing(&format!("N,1\n{row}\n.\n")),
+            if *row == "." { "refused,1,1" } else { "refused,1,2" },
+            "{row:?}"
+        );
+    }
+    assert_eq!(text_listing("N,1\n\n.\n"), "refused,1,2");
+}
+
+#[test]
+fn limits_come_before_order() {
+    let over = [
+        "N,0",
+        "N,33",
+        "N,999",
+        "R,s32,s0,o",
+        "R,s0,s999,o",
+        "D,32,s0,o",
+        "D,0,s32,o",
+        "T,s0,s32",
+        "L,s0,256",
+        "L,s32,0",
+        "Q,256,nil",
+        "Q,0,rep,256",
+        "Q,0,par,1,256",
+        "Q,0,out,1,u32,s0",
+        "Q,0,in,1,s0,!u32",
+        "Q,0,eval,1,s0,256,0",
+        "Q,0,eval,1,s0,2,32",
+        "Q,0,accept,1,32",
+        "B,u32,s0",
+        "B,u0,s32",
+        "A,s0,s0,s32",
+        "E,s0,s32,o",
+    ];
+    for row in over {
+        assert_eq!(net(&format!("N,1 Q,0,nil {row}")), "refused,2,3", "{row}");
+        assert_eq!(listing("N,1", &format!("E,s0,s0,o {row}")), "refused,2,2", "{row}");
+    }
+}
+
+#[test]
+fn order_and_repeats() {
+    assert_eq!(net("R,s0,s0,o"), "refused,3,1");
+    assert_eq!(net("N,1 N,1"), "refused,3,2");
+    assert_eq!(net("N,2 D,0,s5,o R,s5,s5,o"), "refused,4,2");
+    assert_eq!(net("N,2 D,0,s1,o R,s5,s5,o"), "refused,3,3");
+    assert_eq!(net("N,2 R,s0,s1,o R,s1,s0,o R,s0,s1,i"), "refused,3,4");
+    assert_eq!(net("N,2 D,0,self,o D,0,s0,o D,1,self,o D,0,self,r"), "refused,3,5");
+    assert_eq!(net("N,2 T,s0,s1 T,s0,s1,s1 T,s0,s1"), "refused,3,4");
+    assert_eq!(net("N,2 L,s0,0 L,s1,1 L,s0,0"), "refused,3,4");
+    assert_eq!(net("N,2 B,u0,s0"), "refused,3,2");
+    assert_eq!(listing("N,2", "A,s0,s0 B,u0,s0"), "refused,3,2");
+    assert_eq!(listing("N,2", "B,u0,s0 B,u0,s1 B,u0,s0"), "refused,3,3");
+    assert_eq!(listing("N,2", "E,s0,s1,o E,s0,s1,i"), "refused,3,2");
+    assert_eq!(listing("N,2", "Q,0,nil"), "refused,3,1");
+    assert_eq!(listing("N,2", "N,2"), "refused,3,1");
+    assert_eq!(listing("N,2", "A,s0,s2"), "refused,4,1");
+}
+
+fn many(count: usize, row: impl Fn(usize) -> String) -> String {
+    (0..count).map(|at| format!("{} ", row(at))).collect()
+}
+
+#[test]
+fn counts() {
+    let tuple = |at: usize| format!("T,s{},s{},s{}", at % 8, at / 8 % 8, at / 64);
+    assert_eq!(net(&format!("N,8 {}", many(256, tuple))), "broken,T,0");
+    assert_eq!(net(&format!("N,8 {} T,s0,s0,s0", many(256, tuple))), "refused,2,258");
+    let root = |at: usize| format!("L,s0,{at}");
+    let nil = |at: usize| format!("Q,{at},nil");
+    assert!(net(&format!("N,1 {}{}", many(64, root), many(64, nil))).starts_with("accepted,0"));
+    assert_eq!(net(&format!("N,1 {}{}", many(65, root), many(65, nil))), "refused,2,66");
+    let rep = |at: usize| if at == 255 { nil(at) } else { format!("Q,{at},rep,{}", at + 1) };
+    assert!(net(&format!("N,1 L,s0,0 {}", many(256, rep))).starts_with("accepted,0"));
+    assert_eq!(net(&format!("N,1 L,s0,0 {} Q,0,nil", many(256, rep))), "refused,2,259");
+    let allowed = |at: usize| tuple(at).replace('T', "A");
+    assert!(listing("N,8", &many(256, allowed)).starts_with("accepted,0"));
+    assert_eq!(listing("N,8", &format!("{} A,s9,s9", many(256, allowed))), "refused,2,257");
+}
+
+#[test]
+fn whole_text() {
+    assert_eq!(net("N,1 L,s0,0"), "refused,5,0");
+    assert_eq!(net("N,1 L,s0,1 Q,1,nil"), "refused,5,0");
+    assert_eq!(net("N,1 L,s0,0 Q,0,rep,2 Q,1,nil"), "refused,5,0");
+    assert_eq!(net("N,1 L,s0,0 Q,0,out,1,u0,u0 Q,1,nil Q,2,rep,1"), "refused,5,0");
+    assert_eq!(net("N,1 Q,0,nil"), "refused,6,0");
+    assert_eq!(net("N,1 L,s0,0 Q,0,par,1,1 Q,1,nil"), "refused,6,0");
+    assert_eq!(net("N,1 L,s0,0 Q,0,out,1,u0,u0 Q,1,nil Q,2,nil"), "refused,6,0");
+    assert_eq!(listing("N,1 Q,0,nil", "X"), "refused,6,0");
+    assert_eq!(listing("N,1", "X"), "refused,1,1");
+}
+
+#[test]
+fn scope_of_variables() {
+    let free = |lines: &str| net(&format!("N,2 L,s0,0 {lines}")) == "refused,8,0";
+    assert!(free("Q,0,in,1,u0,!u0 Q,1,nil"));
+    assert!(free("Q,0,in,1,s0,!u0,u1 Q,1,nil"));
+    assert!(!free("Q,0,in,1,s0,!u0 Q,1,in,2,u0,!u0 Q,2,nil"));
+    assert!(!free("Q,0,in,1,s0,!u0 Q,1,eval,2,s0,3,0 Q,2,nil Q,3,out,4,u0,u0 Q,4,nil"));
+    assert!(free("Q,0,par,1,3 Q,1,in,2,s0,!u0 Q,2,nil Q,3,out,4,u0,s0 Q,4,nil"));
+    assert!(free("Q,0,eval,1,s0,2,0 Q,1,nil Q,2,eval,3,u0,4,0 Q,3,nil Q,4,nil"));
+}
+
+#[test]
+fn templates() {
+    let template = |fields: &str| net(&format!("N,2 Q,0,read,1,s1,{fields}"));
+    assert_eq!(template("!u2,s0,!u2"), "refused,7,2");
+    assert_eq!(template("u2,!u2"), "refused,7,2");
+    assert_eq!(template("!u2,s2,u2"), "refused,4,2");
+    assert_eq!(template("!u2,!u3"), "refused,5,0");
+    assert_eq!(net("N,2 Q,0,in,1,u2,!u2"), "refused,5,0");
+}
+
+#[test]
+fn bytes_left_over() {
+    assert_eq!(text_listing("N,1"), "refused,1,1");
+    assert_eq!(text_listing("N,1\nR"), "refused,1,2");
+    assert_eq!(text_listing("N,1\nR\nN"), "refused,1,2");
+    assert_eq!(text_listing("N,1\nN,1\nN"), "refused,3,2");
+    assert_eq!(text_listing("N,1\n."), "refused,1,2");
+    assert_eq!(text_listing("N,1\n.\nB,u0,s0"), "refused,1,1");
+    assert_eq!(text_listing("N,1\n.\nB,u0,s0\n.\n"), "refused,1,2");
+    assert_eq!(text_listing("N,1\n"), "accepted,0 U,s0,0,0,0");
+    assert_eq!(text_listing("N,1\n.\n"), "accepted,0 U,s0,0,0,0");
+    assert_eq!(text_listing("N,1\r\n"), "refused,1,1");
+}
