@@ -133,10 +133,27 @@ fn action_of(kind: u8, next: u8, second: u8, sandbox: u8, target: Loc, count: u8
         0 => Action::Nil,
         1 => Action::Par { next, second },
         2 => Action::Rep { next },
-        3 => Action::Out { next, target, count },
-        4 => Action::In { next, target, count },
-        5 => Action::Read { next, target, count },
-        6 => Action::Eval { next, target, body: second, sandbox },
+        3 => Action::Out {
+            next,
+            target,
+            count,
+        },
+        4 => Action::In {
+            next,
+            target,
+            count,
+        },
+        5 => Action::Read {
+            next,
+            target,
+            count,
+        },
+        6 => Action::Eval {
+            next,
+            target,
+            body: second,
+            sandbox,
+        },
         _ => Action::Accept { next, sandbox },
     }
 }
@@ -148,7 +165,14 @@ pub fn action_at(lines: &[u8; 2560], q: u8) -> Action
     let at = 10 * (q as usize);
     let target = loc_of(lines[at + 4]);
     let count = at_most_four(lines[at + 5]);
-    action_of(lines[at], lines[at + 1], lines[at + 2], lines[at + 3] % 32, target, count)
+    action_of(
+        lines[at],
+        lines[at + 1],
+        lines[at + 2],
+        lines[at + 3] % 32,
+        target,
+        count,
+    )
 }
 
 // Field j of line q, as a byte.

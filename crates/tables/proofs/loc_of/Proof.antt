@@ -1,23 +1,17 @@
 use borrow.Author.Tests.{ne-eqb}
 use native.Mathlib.Omega.{arith}
 use Rattle.tables.specs.View.{locOf}
-use borrow.Author.Needs.{needs}
 use Rattle.tables.proofs.loc_of.Statement.{statement}
 use Rattle.tables.proofs.loc_of.Tie as tie
-use Rattle.tables.proofs.loc_of.Reads as reads
-use Rattle.tables.proofs.loc_of.Lts as lts
 
--- src/lib.rt:100:1
 returns : tie.Need-returns
 unfolding locOf
 returns c = (rw (c .match .keys1), omega arith)
 
--- src/lib.rt:100:1
 returns-2 : tie.Need-returns-2
 unfolding locOf
 returns-2 c = (rw (c .match .keys2), omega arith)
 
--- src/lib.rt:100:1
 returns-3 : tie.Need-returns-3
 unfolding locOf
 returns-3 c = (rw (ne-eqb _ 0 (c .match .rest .0 .1), ne-eqb _ 2 (c .match .rest .1)), tt)

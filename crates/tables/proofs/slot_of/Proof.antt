@@ -4,20 +4,14 @@ use Rattle.tables.specs.View.{slotOf}
 use borrow.Author.Needs.{needs}
 use Rattle.tables.proofs.slot_of.Statement.{statement}
 use Rattle.tables.proofs.slot_of.Tie as tie
-use Rattle.tables.proofs.slot_of.Reads as reads
-use Rattle.tables.proofs.slot_of.Lts as lts
-use Rattle.tables.proofs.loc_of.Reads as loc-of-reads
 
--- src/lib.rt:116:9
 returns : tie.Need-returns
 unfolding slotOf
 returns c = (rw (eq-eqb _ 3 (c .if1 .taken)), omega arith)
 
--- src/lib.rt:118:9
 loc-of-requires : tie.Need-loc-of-requires
 loc-of-requires c κs = search needs
 
--- src/lib.rt:112:1
 returns-2 : tie.Need-returns-2
 unfolding slotOf
 returns-2 c = (rw (ne-eqb _ 3 (c .before .if1 .left), c .loc-of .ensures .0), c .loc-of .ensures .1)
