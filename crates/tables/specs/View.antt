@@ -13,7 +13,7 @@ use Rattle.klaim.specs.declared.Loc.{Loc}
 use Rattle.klaim.specs.declared.Loc.the-variants.{At, Here, Use}
 use Rattle.klaim.specs.declared.Slot.{Slot}
 use Rattle.klaim.specs.declared.Slot.the-variants.{Value, Bind}
-use Rattle.klaim.specs.Process.{Line}
+use Rattle.klaim.specs.Process.{Line, ordered}
 use Rattle.klaim.specs.Process as Process
 use Rattle.klaim.specs.Net as Spec
 use Rattle.tables.specs.declared.Net.{Net}
@@ -37,20 +37,20 @@ unfoldable pub fieldBytes : List ℕ → ℕ → List ℕ
 fieldBytes bs q = take 4 (drop (10 * q + 6) bs)
 
 -- a line of kind j, with its numbers, its target and its fields as bytes: 0 nil, 1 par, 2 rep, 3 out, 4 in, 5 read, 6 eval, else accept
-unfoldable pub lineBy : ℕ → ℕ → ℕ → ℕ → ℕ → List ℕ → Line
+unfoldable pub lineBy : ℕ → ℕ → ℕ → ℕ → Loc → List ℕ → Line
 lineBy j a b k g fs =
     cond (eqb j 0) Process.Nil
     (cond (eqb j 1) (Process.Par a b)
     (cond (eqb j 2) (Process.Rep a)
-    (cond (eqb j 3) (Process.Out a (locOf g) (map locOf fs))
-    (cond (eqb j 4) (Process.In a (locOf g) (map slotOf fs))
-    (cond (eqb j 5) (Process.Read a (locOf g) (map slotOf fs))
-    (cond (eqb j 6) (Process.Eval a (locOf g) b k)
+    (cond (eqb j 3) (Process.Out a g (map locOf fs))
+    (cond (eqb j 4) (Process.In a g (map slotOf fs))
+    (cond (eqb j 5) (Process.Read a g (map slotOf fs))
+    (cond (eqb j 6) (Process.Eval a g b k)
     (Process.Accept a k)))))))
 
 -- line q: its kind, the line that follows, the second branch or body, the sandbox, the target, how many fields, the fields
 unfoldable pub lineOf : List ℕ → ℕ → Line
-lineOf bs q = lineBy (lineByte bs q 0) (lineByte bs q 1) (lineByte bs q 2) (lineByte bs q 3 % 32) (lineByte bs q 4) (take (lineByte bs q 5) (fieldBytes bs q))
+lineOf bs q = lineBy (lineByte bs q 0) (lineByte bs q 1) (lineByte bs q 2) (lineByte bs q 3 % 32) (locOf (lineByte bs q 4)) (take (lineByte bs q 5) (fieldBytes bs q))
 
 unfoldable pub linesView : ℕ → List ℕ → List Line
 linesView n bs = table n (lineOf bs)
@@ -121,3 +121,8 @@ LowAction (Accept a k) = k < 32
 pub record Decoded (bs : List ℕ) (q : ℕ) (r : Action) : Type 0 where
   pub line : actionLine r (fieldBytes bs q) ≡ lineOf bs q
   pub low : LowAction r
+
+-- line q is one of the n lines, and children are greater than their parents
+pub record InForm (n : ℕ) (bs : List ℕ) (q : ℕ) : Type 0 where
+  pub inOrder : ordered (linesView n bs) ≡ true
+  pub present : q < n

@@ -1,6 +1,9 @@
 //! A net and an estimate as tables of numbers, and a process line taken out of its table.
 ghost use mathlib.Core.Path.{_≡_};
-ghost use Rattle.tables.specs.View.{Decoded, slotOf, locOf, LowLoc};
+ghost use mathlib.Core.List.{List};
+ghost use Prim.Native.Nat.{ℕ, _<_, _≤_, min};
+ghost use lib.ListN.{getD, take};
+ghost use Rattle.tables.specs.View.{Decoded, slotOf, locOf, fieldBytes, lineBy, actionLine, LowLoc, LowSlot, LowAction};
 use klaim::Loc;
 use klaim::Site;
 use klaim::Slot;
@@ -91,4 +94,92 @@ pub enum Action {
         next: u8,
         sandbox: u8,
     },
+}
+
+// A target or a field from its byte: site s is s, `self` 32, variable u 64 + u.
+pub fn loc_of(code: u8) -> Loc
+    ensures { λ r. ⌜ (r ≡ locOf code) × LowLoc r ⌝ }
+{
+    let number = code % 32;
+    match code / 32 % 4 {
+        0 => Loc::At(Site(number)),
+        2 => Loc::Use(Var(number)),
+        _ => Loc::Here,
+    }
+}
+
+// A field of a template from its byte: `!u` is 96 + u.
+pub fn slot_of(code: u8) -> Slot
+    ensures { λ r. ⌜ (r ≡ slotOf code) × LowSlot r ⌝ }
+{
+    if code / 32 % 4 == 3 {
+        return Slot::Bind(Var(code % 32));
+    }
+    let value = loc_of(code);
+    Slot::Value(value)
+}
+
+fn at_most_four(count: u8) -> u8
+    ensures { λ r. ⌜ r ≡ min count 4 ⌝ }
+{
+    if count < 4 { count } else { 4 }
+}
+
+fn action_of(kind: u8, next: u8, second: u8, sandbox: u8, target: Loc, count: u8) -> Action
+    requires { ⌜ LowLoc target × (sandbox < 32) × (count ≤ 4) ⌝ }
+    ensures { λ r. ⌜ ((fs : List ℕ) → actionLine r fs ≡ lineBy kind next second sandbox target (take count fs)) × LowAction r ⌝ }
+{
+    match kind {
+        0 => Action::Nil,
+        1 => Action::Par { next, second },
+        2 => Action::Rep { next },
+        3 => Action::Out {
+            next,
+            target,
+            count,
+        },
+        4 => Action::In {
+            next,
+            target,
+            count,
+        },
+        5 => Action::Read {
+            next,
+            target,
+            count,
+        },
+        6 => Action::Eval {
+            next,
+            target,
+            body: second,
+            sandbox,
+        },
+        _ => Action::Accept { next, sandbox },
+    }
+}
+
+// Line q: its kind, the line that follows, the second branch or body, the sandbox, the target, how many fields, four fields.
+pub fn action_at(lines: &[u8; 2560], q: u8) -> Action
+    ensures { λ r. ⌜ Decoded (now (lines .entry)) q r ⌝ }
+{
+    let at = 10 * (q as usize);
+    let target = loc_of(lines[at + 4]);
+    let count = at_most_four(lines[at + 5]);
+    action_of(
+        lines[at],
+        lines[at + 1],
+        lines[at + 2],
+        lines[at + 3] % 32,
+        target,
+        count,
+    )
+}
+
+// Field j of line q, as a byte.
+pub fn field_at(lines: &[u8; 2560], q: u8, j: u8) -> u8
+    requires { ⌜ j < 4 ⌝ }
+    ensures { λ r. ⌜ r ≡ getD (fieldBytes (now (lines .entry)) q) j 0 ⌝ }
+{
+    let at = 10 * (q as usize) + 6;
+    lines[at + (j as usize)]
 }

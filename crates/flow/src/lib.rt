@@ -1,0 +1,240 @@
+//! Reach and use map: what a process may touch, by the estimate.
+ghost use mathlib.Core.Path.{_≡_};
+ghost use mathlib.Core.Bool.{cond};
+ghost use Prim.Native.Nat.{ℕ, _<_};
+ghost use lib.ListN.{getD};
+ghost use Rattle.sets.specs.Lists.{table};
+ghost use Rattle.sets.specs.Bits.{acceptBit, mem, sites, join, meet, grant, joins};
+ghost use Rattle.klaim.specs.Process.{tree};
+ghost use Rattle.klaim.specs.Net.{Net, Estimate, boxAt};
+ghost use Rattle.klaim.specs.Analysis.{reach as reachOf};
+ghost use Rattle.klaim.specs.Report.{sure, uses};
+ghost use Rattle.tables.specs.View.{linesView, LowLoc, InForm};
+use klaim::Loc;
+use tables::Action;
+
+// Bytes of a sandbox's row in its table: one for each site, then one for `self`.
+const ROW: usize = 33;
+
+const OWN: usize = 32;
+
+// The reach of a target or field, `places` being the place set: the sites that it may stand for.
+pub fn reach(x: Loc, places: u32, binds: &[u32; 32]) -> u32
+    requires { ⌜ LowLoc x ⌝ }
+    ensures { λ r. ⌜ ((E : Estimate) → E .binds ≡ now (binds .entry) → r ≡ reachOf E places x) ⌝ }
+{
+    match x {
+        Loc::At(s) => sets::single(s.0),
+        Loc::Here => places,
+        Loc::Use(u) => {
+            let at = u.0 as usize;
+            binds[at]
+        }
+    }
+}
+
+// Sandbox k evaluated at site l, towards t.
+pub fn box_at(boxes: &[u8; 1056], k: u8, l: u8, t: u8) -> u8
+    requires { ⌜ (k < 32) × (t < 32) ⌝ }
+    ensures { λ r. ⌜ ((N : Net) → N .boxes ≡ now (boxes .entry) → r ≡ boxAt N k l t) ⌝ }
+{
+    let own = ROW * (k as usize) + OWN;
+    let at = ROW * (k as usize) + (t as usize);
+    if t == l {
+        return boxes[at] & boxes[own];
+    }
+    boxes[at]
+}
+
+// What sandbox k gives on site t, evaluated at any of the places.
+pub fn box_over(boxes: &[u8; 1056], k: u8, places: u32, t: u8) -> u8
+    requires { ⌜ (k < 32) × (t < 32) ⌝ }
+    ensures { λ r. ⌜ ((N : Net) → N .boxes ≡ now (boxes .entry) → r ≡ joins (λ l. boxAt N k l t) (sites places)) ⌝ }
+{
+    let mut r: u8 = 0;
+    let mut l: u8 = 32;
+    while 0 < l {
+        l -= 1;
+        r = sets::granted(places, l, box_at(boxes, k, l, t)) | r;
+    }
+    r
+}
+
+// What both have, if the set has site n; else the old rights.
+fn narrowed(set: u32, n: u8, rights: u8, old: u8) -> u8
+    requires { ⌜ n < 32 ⌝ }
+    ensures { λ r. ⌜ r ≡ cond (mem n set) (meet rights old) old ⌝ }
+{
+    if sets::has_site(set, n) {
+        rights & old
+    } else {
+        old
+    }
+}
+
+// The rights towards t that sandbox k has evaluated at every site of a reach.
+pub fn box_sure(boxes: &[u8; 1056], k: u8, set: u32, t: u8) -> u8
+    requires { ⌜ (k < 32) × (t < 32) ⌝ }
+    ensures { λ r. ⌜ ((N : Net) → N .boxes ≡ now (boxes .entry) → r ≡ sure N k set t) ⌝ }
+{
+    let mut r: u8 = UseMap::EVERY;
+    let mut l: u8 = 32;
+    while 0 < l {
+        l -= 1;
+        r = narrowed(set, l, box_at(boxes, k, l, t), r);
+    }
+    r
+}
+
+// Use map: rights for each site.
+pub struct UseMap {
+    pub rights: [u8; 32],
+}
+
+impl UseMap {
+    pub const SITES: usize = 32;
+
+    pub const OUT: u8 = 1;
+
+    pub const IN: u8 = 2;
+
+    pub const READ: u8 = 4;
+
+    pub const EVAL: u8 = 8;
+
+    pub const ACCEPT: u8 = 16;
+
+    pub const EVERY: u8 = 31;
+
+    // The empty use map: no right on any site.
+    pub fn empty() -> UseMap
+        ensures { λ r. ⌜ r .rights ≡ table 32 (λ s. 0) ⌝ }
+    {
+        UseMap {
+            rights: [0u8; UseMap::SITES],
+        }
+    }
+
+    pub fn join(self, other: UseMap) -> UseMap
+        ensures { λ r. ⌜ r .rights ≡ table 32 (λ s. join (getD (self .rights) s 0) (getD (other .rights) s 0)) ⌝ }
+    {
+        let a = self.rights;
+        let b = other.rights;
+        let mut r = [0u8; UseMap::SITES];
+        let mut i: usize = 0;
+        while i < UseMap::SITES {
+            r[i] = a[i] | b[i];
+            i += 1;
+        }
+        UseMap { rights: r }
+    }
+
+    // The right on each site of the set.
+    fn over(right: u8, set: u32) -> UseMap
+        ensures { λ r. ⌜ r .rights ≡ table 32 (λ s. grant (mem s set) right) ⌝ }
+    {
+        let mut r = [0u8; UseMap::SITES];
+        let mut i: u8 = 0;
+        while i < 32 {
+            let at = i as usize;
+            r[at] = sets::granted(set, i, right);
+            i += 1;
+        }
+        UseMap { rights: r }
+    }
+
+    // What sandbox k gives, evaluated at any of the places.
+    fn of_box(boxes: &[u8; 1056], k: u8, places: u32) -> UseMap
+        requires { ⌜ k < 32 ⌝ }
+        ensures { λ r. ⌜ ((N : Net) → N .boxes ≡ now (boxes .entry) → r .rights ≡ table 32 (λ s. joins (λ l. boxAt N k l s) (sites places))) ⌝ }
+    {
+        let mut r = [0u8; UseMap::SITES];
+        let mut i: u8 = 0;
+        while i < 32 {
+            let at = i as usize;
+            r[at] = box_over(boxes, k, places, i);
+            i += 1;
+        }
+        UseMap { rights: r }
+    }
+
+    // With the right on each site of the target's reach.
+    fn acting(self, right: u8, target: Loc, places: u32, binds: &[u32; 32]) -> UseMap
+        requires { ⌜ LowLoc target ⌝ }
+        ensures { λ r. ⌜ ((E : Estimate) → E .binds ≡ now (binds .entry) → r .rights ≡ table 32 (λ s. join (getD (self .rights) s 0) (grant (mem s (reachOf E places target)) right))) ⌝ }
+    {
+        let set = reach(target, places, binds);
+        self.join(UseMap::over(right, set))
+    }
+
+    // With right a on each place, and the sandbox evaluated at each place.
+    fn taking(self, boxes: &[u8; 1056], k: u8, places: u32) -> UseMap
+        requires { ⌜ k < 32 ⌝ }
+        ensures { λ r. ⌜ ((N : Net) → N .boxes ≡ now (boxes .entry) → r .rights ≡ table 32 (λ s. join (getD (self .rights) s 0) (join (grant (mem s places) acceptBit) (joins (λ l. boxAt N k l s) (sites places))))) ⌝ }
+    {
+        let own = UseMap::over(UseMap::ACCEPT, places);
+        let given = own.join(UseMap::of_box(boxes, k, places));
+        self.join(given)
+    }
+}
+
+// The use map of line q, `places` being its place set. Children have greater numbers: 256 less q falls.
+pub fn use_map(
+    lines: &[u8; 2560],
+    n: usize,
+    boxes: &[u8; 1056],
+    binds: &[u32; 32],
+    places: u32,
+    q: u8,
+) -> UseMap
+    requires { ⌜ InForm n (now lines) q ⌝ }
+    ensures { λ r. ⌜ ((N : Net) (E : Estimate) → N .boxes ≡ now (boxes .entry) → E .binds ≡ now (binds .entry) → r .rights ≡ table 32 (uses N E places (tree (linesView n (now (lines .entry))) q))) ⌝ }
+{
+    let action = tables::action_at(lines, q);
+    match action {
+        Action::Nil => UseMap::empty(),
+        Action::Par { next, second } => {
+            let a = use_map(lines, n, boxes, binds, places, next);
+            let b = use_map(lines, n, boxes, binds, places, second);
+            a.join(b)
+        }
+        Action::Rep { next } => use_map(lines, n, boxes, binds, places, next),
+        Action::Out {
+            next,
+            target,
+            count: _,
+        } => {
+            let a = use_map(lines, n, boxes, binds, places, next);
+            a.acting(UseMap::OUT, target, places, binds)
+        }
+        Action::In {
+            next,
+            target,
+            count: _,
+        } => {
+            let a = use_map(lines, n, boxes, binds, places, next);
+            a.acting(UseMap::IN, target, places, binds)
+        }
+        Action::Read {
+            next,
+            target,
+            count: _,
+        } => {
+            let a = use_map(lines, n, boxes, binds, places, next);
+            a.acting(UseMap::READ, target, places, binds)
+        }
+        Action::Eval {
+            next,
+            target,
+            body: _,
+            sandbox: _,
+        } => {
+            let a = use_map(lines, n, boxes, binds, places, next);
+            a.acting(UseMap::EVAL, target, places, binds)
+        }
+        Action::Accept { next, sandbox } => {
+            let a = use_map(lines, n, boxes, binds, places, next);
+            a.taking(boxes, sandbox, places)
+        }
+    }
+}

@@ -1,0 +1,93 @@
+-- Laws of the process lines in their table: the line of a number, its process, its children.
+-- Assumes nothing.
+use mathlib.Core.Path.{_≡_, refl, sym, ap, subst, _∙_}
+use mathlib.Core.List.{List}
+use Prim.Native.Nat.{ℕ, _+_, _*_, _%_, _<_, _≤_, min}
+use native.Mathlib.Omega.{arith}
+use native.Mathlib.Nat.{add-zero, min-eq-left, min-eq-right}
+use native.Mathlib.Decide.{decLe}
+use lib.ListN.{length, getD, take, drop, length-take}
+use lib.Seq.{take-all}
+use Rattle.sets.specs.Lists.{Elem, first, later}
+use Rattle.sets.proofs.Tables.{getD-table, length-table}
+use Rattle.klaim.specs.declared.Loc.{Loc}
+use Rattle.klaim.specs.Process.{Line, Tree, lineAt, children, node, ordered, tree}
+use Rattle.klaim.specs.Process as Process
+use Rattle.klaim.proofs.Process.{tree-node, child-greater, child-line}
+use Rattle.tables.specs.declared.Action.{Action}
+use Rattle.tables.specs.declared.Action.the-variants.{Nil, Par, Rep, Out, In, Read, Eval, Accept}
+use Rattle.tables.specs.View.{locOf, lineByte, fieldBytes, lineBy, lineOf, linesView, actionLine, LowLoc, LowAction, Decoded, InForm}
+
+pub length-view : (n : ℕ) (bs : List ℕ) → length (linesView n bs) ≡ n
+unfolding linesView
+length-view n bs = length-table n (lineOf bs)
+
+pub line-view : (n : ℕ) (bs : List ℕ) (q : ℕ) → q < n → lineAt (linesView n bs) q ≡ lineOf bs q
+unfolding linesView
+line-view n bs q h = getD-table n (lineOf bs) q Process.Nil h
+
+-- at most four fields are there
+take-four : (n : ℕ) (bs : List ℕ) (q : ℕ) → take (min n 4) (fieldBytes bs q) ≡ take n (fieldBytes bs q)
+unfolding fieldBytes
+take-four n bs q = go (decLe n 4)
+  where
+    few : length (take 4 (drop (10 * q + 6) bs)) ≤ 4
+    few = omega (arith, length-take 4 (drop (10 * q + 6) bs))
+
+    go : Dec (n ≤ 4) → take (min n 4) (take 4 (drop (10 * q + 6) bs)) ≡ take n (take 4 (drop (10 * q + 6) bs))
+    go (yes h) = rw (min-eq-left h)
+    go (no h) = rw (min-eq-right {n = 4} {m = n} (omega arith), take-all 4 (take 4 (drop (10 * q + 6) bs)) few, take-all n (take 4 (drop (10 * q + 6) bs)) (omega (arith, few)))
+
+-- an action made of the bytes of line q
+pub decoded : (bs : List ℕ) (q : ℕ) {r : Action} {g : Loc} {n : ℕ} → g ≡ locOf (lineByte bs q 4) → n ≡ min (lineByte bs q 5) 4 → ((fs : List ℕ) → actionLine r fs ≡ lineBy (getD bs (10 * q) 0) (lineByte bs q 1) (lineByte bs q 2) (lineByte bs q 3 % 32) g (take n fs)) → LowAction r → Decoded bs q r
+unfolding lineOf
+decoded bs q {r} {g} {n} e m h low = record {
+  line = h (fieldBytes bs q) ∙ rw (e, m, take-four (lineByte bs q 5) bs q, add-zero (10 * q));
+  low = low;
+}
+
+module _ {n : ℕ} {bs : List ℕ} {q : ℕ} (w : InForm n bs q) {r : Action} (d : Decoded bs q r) where
+  line-is : lineAt (linesView n bs) q ≡ actionLine r (fieldBytes bs q)
+  line-is = line-view n bs q (w .present) ∙ sym (d .line)
+
+  -- the process of line q by its action
+  pub tree-at : {x : Action} → r ≡ x → tree (linesView n bs) q ≡ node (tree (linesView n bs)) q (actionLine x (fieldBytes bs q))
+  tree-at e = tree-node (linesView n bs) q (w .inOrder) ∙ ap (node (tree (linesView n bs)) q) (line-is ∙ ap (λ (x : Action). actionLine x (fieldBytes bs q)) e)
+
+-- a line that line q names
+pub record Child (n : ℕ) (bs : List ℕ) (q c : ℕ) : Type 0 where
+  pub greater : q < c
+  pub form : InForm n bs c
+
+-- what a recursion over lines meets in each arm: the children, and numbers within limits
+abbrev pub Next : (n : ℕ) (bs : List ℕ) (q : ℕ) → Action → Type 0
+Next n bs q Nil = Unit {0}
+Next n bs q (Par a b) = Child n bs q a × Child n bs q b
+Next n bs q (Rep a) = Child n bs q a × Unit {0}
+Next n bs q (Out a g k) = Child n bs q a × LowLoc g × (k ≤ 4)
+Next n bs q (In a g k) = Child n bs q a × LowLoc g × (k ≤ 4)
+Next n bs q (Read a g k) = Child n bs q a × LowLoc g × (k ≤ 4)
+Next n bs q (Eval a g b k) = Child n bs q a × LowLoc g × Child n bs q b × (k < 32)
+Next n bs q (Accept a k) = Child n bs q a × (k < 32)
+
+next-of : (n : ℕ) (bs : List ℕ) (q : ℕ) (fs : List ℕ) (x : Action) → LowAction x → ((c : ℕ) → Elem c (children (actionLine x fs)) → Child n bs q c) → Next n bs q x
+unfolding children actionLine
+next-of n bs q fs Nil l h = tt
+next-of n bs q fs (Par a b) l h = (h a (first refl), h b (later (first refl)))
+next-of n bs q fs (Rep a) l h = (h a (first refl), tt)
+next-of n bs q fs (Out a g k) l h = (h a (first refl), l .0, l .1)
+next-of n bs q fs (In a g k) l h = (h a (first refl), l .0, l .1)
+next-of n bs q fs (Read a g k) l h = (h a (first refl), l .0, l .1)
+next-of n bs q fs (Eval a g b k) l h = (h a (first refl), l .0, h b (later (first refl)), l .1)
+next-of n bs q fs (Accept a k) l h = (h a (first refl), l)
+
+pub next : {n : ℕ} {bs : List ℕ} {q : ℕ} → InForm n bs q → {r : Action} → Decoded bs q r → {x : Action} → r ≡ x → Next n bs q x
+next {n} {bs} {q} w {r} d e = subst (Next n bs q) e (next-of n bs q (fieldBytes bs q) r (d .low) child)
+  where
+    child : (c : ℕ) → Elem c (children (actionLine r (fieldBytes bs q))) → Child n bs q c
+    child c i =
+        let j : Elem c (children (lineAt (linesView n bs) q)) = subst (λ (l : Line). Elem c (children l)) (sym (line-is w d)) i in
+        record {
+          greater = child-greater (linesView n bs) q (w .inOrder) c j;
+          form = record { inOrder = w .inOrder; present = omega (arith, child-line (linesView n bs) q (w .inOrder) c j, length-view n bs) };
+        }
