@@ -1,0 +1,23 @@
+-- A template and what its `!u` may become, as sets of sites: one set for the target and for each field.
+-- Assumes nothing.
+use Prim.Native.Nat.{ℕ}
+use Rattle.klaim.specs.declared.Var.{Var}
+use Rattle.klaim.specs.declared.Loc.{Loc}
+use Rattle.klaim.specs.declared.Slot.{Slot}
+use Rattle.klaim.specs.declared.Slot.the-variants.{Value, Bind}
+use Rattle.klaim.specs.Net.{Estimate, may}
+use Rattle.klaim.specs.Analysis.{reach}
+
+-- all sites
+abbrev pub anySite : ℕ
+anySite = 4294967295
+
+-- what a field agrees with: a value's reach, and `!u` any site
+unfoldable pub wanted : Estimate → ℕ → Slot → ℕ
+wanted E P (Value x) = reach E P x
+wanted E P (Bind u) = anySite
+
+-- what a row's field may be: for `!u` what u may become, for a value any site
+unfoldable pub allowed : Estimate → Slot → ℕ
+allowed E (Value x) = anySite
+allowed E (Bind u) = may E (u .0)
