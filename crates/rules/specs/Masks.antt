@@ -1,12 +1,19 @@
 -- A template and what its `!u` may become, as sets of sites: one set for the target and for each field.
 -- Assumes nothing.
-use Prim.Native.Nat.{ℕ}
+use mathlib.Core.Path.{_≡_}
+use mathlib.Core.Bool.{true}
+use mathlib.Core.List.{List}
+use Prim.Native.Nat.{ℕ, _≤_}
+use lib.ListN.{length}
+use Rattle.sets.specs.Lists.{all}
 use Rattle.klaim.specs.declared.Var.{Var}
 use Rattle.klaim.specs.declared.Loc.{Loc}
 use Rattle.klaim.specs.declared.Slot.{Slot}
 use Rattle.klaim.specs.declared.Slot.the-variants.{Value, Bind}
 use Rattle.klaim.specs.Net.{Estimate, may}
 use Rattle.klaim.specs.Analysis.{reach}
+use Rattle.klaim.specs.Invariant.{allBelow, distinct}
+use Rattle.tables.specs.View.{rowsView}
 
 -- all sites
 abbrev pub anySite : ℕ
@@ -21,3 +28,10 @@ wanted E P (Bind u) = anySite
 unfoldable pub allowed : Estimate → Slot → ℕ
 allowed E (Value x) = anySite
 allowed E (Bind u) = may E (u .0)
+
+-- a table of A rows as the reader leaves it: at most 256, of sites, no two alike
+pub record Sized (n : ℕ) (bs : List ℕ) : Type 0 where
+  pub few : n ≤ 256
+  pub long : length bs ≡ 1536
+  pub alone : distinct (rowsView n bs) ≡ true
+  pub low : all (allBelow 32) (rowsView n bs) ≡ true

@@ -1,0 +1,76 @@
+-- Laws of the rules as the code tests them.
+-- Assumes nothing.
+use mathlib.Core.Path.{_≡_, refl, sym, ap, _∙_}
+use mathlib.Core.Bool.{Bool, true, false}
+use mathlib.Core.List.{List, [], _∷_}
+use Prim.Native.Nat.{ℕ, zero, suc, _+_, _-_, _*_, _<_, _≤_}
+use native.Mathlib.Omega.{arith}
+use lib.ListN.{getD}
+use Rattle.sets.specs.Lists.{Elem, _&_, imp, all, only, keep, _∪_, tableFrom, table, below}
+use Rattle.sets.specs.Bits.{mem, sites, within, joins}
+use Rattle.sets.proofs.Lists.{all-at, all-i, iff}
+use Rattle.sets.proofs.Bits.{within-joins}
+use Rattle.klaim.specs.declared.Loc.{Loc}
+use Rattle.klaim.specs.Net.{Net, Estimate, boxAt, holds}
+use Rattle.klaim.specs.Analysis.{reach, reached, evalRule}
+
+-- a test of the numbers from i upwards
+unfoldable pub allFrom : (ℕ → Bool) → ℕ → Bool
+allFrom f i = all f (tableFrom (32 - i) i (λ n. n))
+
+pub all-end : (f : ℕ → Bool) → allFrom f 32 ≡ true
+unfolding allFrom all tableFrom
+all-end f = refl
+
+pub all-down : (f : ℕ → Bool) (i : ℕ) → 0 < i → i ≤ 32 → allFrom f (i - 1) ≡ (f (i - 1) & allFrom f i)
+unfolding allFrom all tableFrom
+all-down f i p q = ap (λ (n : ℕ). all f (tableFrom n (i - 1) (λ n. n))) left ∙ ap (λ (k : ℕ). f (i - 1) & all f (tableFrom (32 - i) k (λ n. n))) next
+  where
+    left : 32 - (i - 1) ≡ suc (32 - i)
+    left = omega arith
+
+    next : suc (i - 1) ≡ i
+    next = omega arith
+
+pub all-below : (f : ℕ → Bool) → allFrom f 0 ≡ all f (below 32)
+unfolding allFrom below table
+all-below f = refl
+
+all-only : {A : Type 0} (f : A → Bool) (b : Bool) (x : A) (ys : List A) → (imp b (f x) & all f ys) ≡ all f (only b x ∪ ys)
+unfolding imp only _∪_ all _&_
+all-only f true x ys = refl
+all-only f false x ys = refl
+
+all-keep : {A : Type 0} (p f : A → Bool) (xs : List A) → all (λ x. imp (p x) (f x)) xs ≡ all f (keep p xs)
+unfolding all keep
+all-keep p f [] = refl
+all-keep p f (x ∷ xs) = ap (λ (b : Bool). imp (p x) (f x) & b) (all-keep p f xs) ∙ all-only f (p x) x (keep p xs)
+
+pub all-sites : (f : ℕ → Bool) (m : ℕ) → allFrom (λ l. imp (mem l m) (f l)) 0 ≡ all f (sites m)
+unfolding sites
+all-sites f m = all-below _ ∙ all-keep (λ l. mem l m) f (below 32)
+
+-- the eval rule, site by site of the object
+eval-rule : (N : Net) (E : Estimate) (P : ℕ) (g : Loc) (k : ℕ) → all (λ t. all (λ l. within (joins (λ l′. boxAt N k l′ t) (sites (reach E P g))) (holds E l t)) (sites (reach E P g))) (below 32) ≡ evalRule N E P g k
+unfolding evalRule
+eval-rule N E P g k = iff
+    (λ h. all-i (λ l. all (λ l′. all (λ t. one l l′ t) (below 32)) (reached E P g)) (reached E P g) (λ l i. all-i (λ l′. all (λ t. one l l′ t) (below 32)) (reached E P g) (λ l′ j. all-i (λ t. one l l′ t) (below 32) (λ t b. all-at (λ l′. one l l′ t) j (sym (within-joins (λ l′. boxAt N k l′ t) (holds E l t) (reached E P g)) ∙ all-at (λ l. many l t) i (all-at (λ t. all (λ l. many l t) (reached E P g)) b h))))))
+    (λ h. all-i (λ t. all (λ l. many l t) (reached E P g)) (below 32) (λ t b. all-i (λ l. many l t) (reached E P g) (λ l i. within-joins (λ l′. boxAt N k l′ t) (holds E l t) (reached E P g) ∙ all-i (λ l′. one l l′ t) (reached E P g) (λ l′ j. all-at (λ t. one l l′ t) b (all-at (λ l′. all (λ t. one l l′ t) (below 32)) j (all-at (λ l. all (λ l′. all (λ t. one l l′ t) (below 32)) (reached E P g)) i h))))))
+  where
+    one : ℕ → ℕ → ℕ → Bool
+    one l l′ t = within (boxAt N k l′ t) (holds E l t)
+
+    many : ℕ → ℕ → Bool
+    many l t = within (joins (λ l′. boxAt N k l′ t) (sites (reach E P g))) (holds E l t)
+
+pub eval-rule-at : (N : Net) (E : Estimate) (P : ℕ) (g : Loc) (k m : ℕ) → m ≡ reach E P g → all (λ t. all (λ l. within (joins (λ l′. boxAt N k l′ t) (sites m)) (holds E l t)) (sites m)) (below 32) ≡ evalRule N E P g k
+eval-rule-at N E P g k m e = ap (λ (m : ℕ). all (λ t. all (λ l. within (joins (λ l′. boxAt N k l′ t) (sites m)) (holds E l t)) (sites m)) (below 32)) e ∙ eval-rule N E P g k
+
+-- one site's E rights
+pub held-yes : (E : Estimate) (hs : List ℕ) (l t need m : ℕ) → E .hold ≡ hs → mem l m ≡ true → within need (getD hs (32 * l + t) 0) ≡ imp (mem l m) (within need (holds E l t))
+unfolding imp holds
+held-yes E hs l t need m e h = rw (h, e)
+
+pub held-no : (b x : Bool) → b ≡ false → true ≡ imp b x
+unfolding imp
+held-no b x h = rw h

@@ -1,0 +1,144 @@
+-- Laws of the rules for out, in and read, by one set of sites for the target and for each field.
+-- Assumes nothing.
+use mathlib.Core.Path.{_≡_, refl, sym, ap, ap₂, subst, _∙_}
+use mathlib.Core.Bool.{Bool, true, false}
+use mathlib.Core.List.{List, [], _∷_, _++_, map}
+use Prim.Native.Nat.{ℕ, zero, suc, _+_, _*_, _<_, _≤_}
+use native.Mathlib.Omega.{arith}
+use lib.Dec.{ltb}
+use lib.ListN.{length, getD, take, drop, set, length-take, length-drop}
+use lib.Seq.{take-suc, take-suc-set}
+use Rattle.sets.specs.Lists.{Elem, first, later, _&_, imp, all, any, tableFrom, table, below, same, among}
+use Rattle.sets.specs.Bits.{has, mem, sites}
+use Rattle.sets.proofs.Lists.{and-l, and-r, all-at, ltb-lt, map-append}
+use Rattle.sets.proofs.Tables.{below-in}
+use Rattle.klaim.specs.declared.Var.{Var}
+use Rattle.klaim.specs.declared.Loc.{Loc}
+use Rattle.klaim.specs.declared.Slot.{Slot}
+use Rattle.klaim.specs.declared.Slot.the-variants.{Value, Bind}
+use Rattle.klaim.specs.Net.{Estimate, may}
+use Rattle.klaim.specs.Analysis.{reach, reached, slotMatch, matches, choices, stands, bound, outRule, getRule}
+use Rattle.klaim.specs.Invariant.{allBelow}
+use Rattle.klaim.proofs.Choices.{fits}
+use Rattle.tables.specs.View.{fieldBytes, locOf, slotOf, LowSlot}
+use Rattle.matching.proofs.Laws.{among-low}
+use Rattle.rules.specs.Masks.{anySite, wanted, allowed}
+
+pub fields-four : (bs : List ℕ) (q : ℕ) → q < 256 → length bs ≡ 2560 → length (fieldBytes bs q) ≡ 4
+unfolding fieldBytes
+fields-four bs q h e = omega (arith, length-take 4 (drop (10 * q + 6) bs), length-drop (10 * q + 6) bs)
+
+-- one more set is stored
+pub sets-more : (F : ℕ → ℕ) (x : ℕ) (fs r : List ℕ) (j v : ℕ) → length fs ≡ 4 → length r ≡ 5 → j < 4 → take (j + 1) r ≡ x ∷ map F (take j fs) → v ≡ F (getD fs j 0) → take (j + 1 + 1) (set r (j + 1) v) ≡ x ∷ map F (take (j + 1) fs)
+sets-more F x fs r j v four five low e w =
+    ap (λ (n : ℕ). take n (set r (j + 1) v)) after
+    ∙ take-suc-set r (j + 1) v (omega arith)
+    ∙ ap₂ (λ (l : List ℕ) (y : ℕ). l ++ (y ∷ [])) e w
+    ∙ ap (λ (l : List ℕ). x ∷ l) (sym (ap (map F) (ap (λ (n : ℕ). take n fs) next ∙ take-suc fs j 0 (omega arith)) ∙ map-append F (take j fs) (getD fs j 0 ∷ [])))
+  where
+    next : j + 1 ≡ suc j
+    next = omega arith
+
+    after : j + 1 + 1 ≡ suc (j + 1)
+    after = omega arith
+
+pub sets-done : (F : ℕ → ℕ) {x y : ℕ} (fs r : List ℕ) {j n : ℕ} → j ≡ n → x ≡ y → take (j + 1) r ≡ x ∷ map F (take j fs) → take (n + 1) r ≡ y ∷ map F (take n fs)
+sets-done F {x} {y} fs r {j} {n} k e h =
+    ap (λ (i : ℕ). take (i + 1) r) (sym k) ∙ h ∙ ap₂ (λ (z : ℕ) (i : ℕ). z ∷ map F (take i fs)) e k
+
+-- what a slot wants and allows, as the code tells
+module _ {s : Slot} where
+  pub low-slot : {t : Slot} → s ≡ t → LowSlot s → LowSlot t
+  low-slot e h = subst LowSlot e h
+
+  pub wanted-value : (E : Estimate) (P : ℕ) {x : Loc} → s ≡ Value x → reach E P x ≡ wanted E P s
+  unfolding wanted
+  wanted-value E P e = rw e
+
+  pub wanted-bind : (E : Estimate) (P : ℕ) {u : Var} → s ≡ Bind u → anySite ≡ wanted E P s
+  unfolding wanted
+  wanted-bind E P e = rw e
+
+  pub allowed-value : (E : Estimate) {x : Loc} → s ≡ Value x → anySite ≡ allowed E s
+  unfolding allowed
+  allowed-value E e = rw e
+
+  pub allowed-bind : (E : Estimate) (bs : List ℕ) → E .binds ≡ bs → {u : Var} → s ≡ Bind u → getD bs (u .0) 0 ≡ allowed E s
+  unfolding allowed may
+  allowed-bind E bs b e = rw (e, b)
+
+pub wanted-target : (E : Estimate) (P : ℕ) (x : Loc) → reach E P x ≡ wanted E P (Value x)
+unfolding wanted
+wanted-target E P x = refl
+
+-- out
+reach-sets : (E : Estimate) (P : ℕ) (cs : List ℕ) → map sites (map (λ c. reach E P (locOf c)) cs) ≡ map (reached E P) (map locOf cs)
+reach-sets E P [] = refl
+reach-sets E P (c ∷ cs) = ap (λ (l : List (List ℕ)). sites (reach E P (locOf c)) ∷ l) (reach-sets E P cs)
+
+pub out-law : (E : Estimate) (P : ℕ) (g : Loc) (cs ms : List ℕ) (rows : List (List ℕ)) → E .stand ≡ rows → ms ≡ reach E P g ∷ map (λ c. reach E P (locOf c)) cs → choices (map sites ms) (λ t. any (same t) rows) ≡ outRule E P g (map locOf cs)
+unfolding outRule stands
+out-law E P g cs ms rows e m =
+    ap₂ (λ (l : List ℕ) (r : List (List ℕ)). choices (map sites l) (λ t. any (same t) r)) m (sym e)
+    ∙ ap (λ (l : List (List ℕ)). choices (sites (reach E P g) ∷ l) (λ t. any (same t) (E .stand))) (reach-sets E P cs)
+
+-- in, read
+every-site : all (λ v. mem v anySite) (below 32) ≡ true
+unfolding all below table tableFrom has _&_
+every-site = refl
+
+and-true : {a b : Bool} → a ≡ true → b ≡ (a & b)
+unfolding _&_
+and-true e = rw e
+
+any-among : (v : ℕ) → v < 32 → among (sites anySite) v ≡ true
+any-among v h = sym (among-low anySite v h) ∙ all-at (λ v. mem v anySite) (below-in 32 v h) every-site
+
+module _ (E : Estimate) (P : ℕ) where
+  slot-fits : (s : Slot) (v : ℕ) → v < 32 → slotMatch (λ x v. mem v (reach E P x)) s v ≡ among (sites (wanted E P s)) v
+  unfolding slotMatch wanted
+  slot-fits (Value x) v h = among-low (reach E P x) v h
+  slot-fits (Bind u) v h = sym (any-among v h)
+
+  matches-fits : (ss : List Slot) (row : List ℕ) → allBelow 32 row ≡ true → matches (λ x v. mem v (reach E P x)) ss row ≡ fits (map sites (map (wanted E P) ss)) row
+  unfolding matches fits allBelow all
+  matches-fits [] [] h = refl
+  matches-fits [] (v ∷ vs) h = refl
+  matches-fits (s ∷ ss) [] h = refl
+  matches-fits (s ∷ ss) (v ∷ vs) h = ap₂ _&_ (slot-fits s v (ltb-lt v 32 (and-l _ _ h))) (matches-fits ss vs (and-r _ _ h))
+
+  bound-fits : (f : Loc → ℕ → Bool) (ss : List Slot) (row : List ℕ) → matches f ss row ≡ true → allBelow 32 row ≡ true → bound E ss row ≡ fits (map sites (map (allowed E) ss)) row
+  unfolding matches fits bound allowed allBelow all
+  bound-fits f [] [] m h = refl
+  bound-fits f [] (v ∷ vs) m h = sym m
+  bound-fits f (s ∷ ss) [] m h = sym m
+  bound-fits f (Value x ∷ ss) (v ∷ vs) m h = bound-fits f ss vs (and-r _ _ m) (and-r _ _ h) ∙ and-true (any-among v (ltb-lt v 32 (and-l _ _ h)))
+  bound-fits f (Bind u ∷ ss) (v ∷ vs) m h = ap₂ _&_ (among-low (may E (u .0)) v (ltb-lt v 32 (and-l _ _ h))) (bound-fits f ss vs (and-r _ _ m) (and-r _ _ h))
+
+  imp-same : {a b c d : Bool} → a ≡ c → (a ≡ true → b ≡ d) → imp a b ≡ imp c d
+  unfolding imp
+  imp-same {a = true} e h = ap₂ imp e (h refl)
+  imp-same {a = false} {d = d} e h = ap (λ (x : Bool). imp x d) e
+
+  all-same : {A : Type 0} (f g : A → Bool) (xs : List A) → ((x : A) → Elem x xs → f x ≡ g x) → all f xs ≡ all g xs
+  unfolding all
+  all-same f g [] h = refl
+  all-same f g (x ∷ xs) h = ap₂ _&_ (h x (first refl)) (all-same f g xs (λ y i. h y (later i)))
+
+  slot-sets : (F : Slot → ℕ) (cs : List ℕ) → map F (map slotOf cs) ≡ map (λ c. F (slotOf c)) cs
+  slot-sets F [] = refl
+  slot-sets F (c ∷ cs) = ap (λ (l : List ℕ). F (slotOf c) ∷ l) (slot-sets F cs)
+
+  pub get-law : (g : Loc) (cs want allow : List ℕ) (rows : List (List ℕ)) → E .stand ≡ rows → all (allBelow 32) rows ≡ true → want ≡ wanted E P (Value g) ∷ map (λ c. wanted E P (slotOf c)) cs → allow ≡ anySite ∷ map (λ c. allowed E (slotOf c)) cs → all (λ row. imp (fits (map sites want) row) (fits (map sites allow) row)) rows ≡ getRule E P g (map slotOf cs)
+  unfolding getRule
+  get-law g cs want allow rows e low w a =
+      all-same _ _ rows (λ row i. sym (imp-same
+      (matches-fits (Value g ∷ map slotOf cs) row (all-at (allBelow 32) i low) ∙ ap (λ (l : List ℕ). fits (map sites l) row) wants)
+      (λ m. bound-fits (λ x v. mem v (reach E P x)) (Value g ∷ map slotOf cs) row m (all-at (allBelow 32) i low) ∙ ap (λ (l : List ℕ). fits (map sites l) row) allows)))
+      ∙ ap (all (λ row. imp (matches (λ x v. mem v (reach E P x)) (Value g ∷ map slotOf cs) row) (bound E (Value g ∷ map slotOf cs) row))) (sym e)
+    where
+      wants : map (wanted E P) (Value g ∷ map slotOf cs) ≡ want
+      wants = ap (λ (l : List ℕ). wanted E P (Value g) ∷ l) (slot-sets (wanted E P) cs) ∙ sym w
+
+      allows : map (allowed E) (Value g ∷ map slotOf cs) ≡ allow
+      allows = ap₂ (λ (x : ℕ) (l : List ℕ). x ∷ l) (sym (allowed-value E refl)) (slot-sets (allowed E) cs) ∙ sym a

@@ -1,0 +1,202 @@
+//! The rules for out, in and read, and eval, of a process line.
+ghost use mathlib.Core.Path.{_≡_};
+ghost use mathlib.Core.Bool.{true};
+ghost use mathlib.Core.List.{_∷_, map};
+ghost use Prim.Native.Nat.{ℕ, _<_, _≤_, _+_};
+ghost use lib.ListN.{length, take};
+ghost use Rattle.sets.specs.Lists.{_&_, imp, all};
+ghost use Rattle.sets.specs.Bits.{mem, sites, within as isWithin};
+ghost use Rattle.klaim.specs.declared.Loc.{Loc as LocT};
+ghost use Rattle.klaim.specs.declared.Slot.the-variants.{Value};
+ghost use Rattle.klaim.specs.Net.{Net, Estimate, holds};
+ghost use Rattle.klaim.specs.Analysis.{reach as reachOf, outRule, getRule, evalRule};
+ghost use Rattle.klaim.specs.Invariant.{allBelow, distinct};
+ghost use Rattle.tables.specs.View.{rowsView, fieldBytes, locOf, slotOf, LowLoc, LowSlot};
+ghost use Rattle.rules.specs.Masks.{anySite, wanted as wantedOf, allowed as allowedOf, Sized};
+use klaim::Loc;
+use klaim::Slot;
+
+// All sites.
+const ANY: u32 = 4294967295;
+
+// What a field of a template agrees with: a value's reach, `!u` any site.
+fn wanted(slot: Slot, places: u32, binds: &[u32; 32]) -> u32
+    requires { ⌜ LowSlot slot ⌝ }
+    ensures { λ r. ⌜ ((E : Estimate) → E .binds ≡ now (binds .entry) → r ≡ wantedOf E places slot) ⌝ }
+{
+    match slot {
+        Slot::Value(x) => flow::reach(x, places, binds),
+        Slot::Bind(_) => ANY,
+    }
+}
+
+// What the row's field may be: for `!u` what u may become, for a value any site.
+fn allowed(slot: Slot, binds: &[u32; 32]) -> u32
+    requires { ⌜ LowSlot slot ⌝ }
+    ensures { λ r. ⌜ ((E : Estimate) → E .binds ≡ now (binds .entry) → r ≡ allowedOf E slot) ⌝ }
+{
+    match slot {
+        Slot::Value(_) => ANY,
+        Slot::Bind(u) => {
+            let at = u.0 as usize;
+            binds[at]
+        }
+    }
+}
+
+// The reaches of the target and of the fields of an out line.
+fn out_sets(
+    lines: &[u8; 2560],
+    q: u8,
+    count: u8,
+    target: Loc,
+    places: u32,
+    binds: &[u32; 32],
+) -> [u32; 5]
+    requires { ⌜ LowLoc target × (count ≤ 4) × (length (now lines) ≡ 2560) ⌝ }
+    ensures { λ r. ⌜ ((E : Estimate) → E .binds ≡ now (binds .entry) → take (count + 1) r ≡ reachOf E places target ∷ map (λ c. reachOf E places (locOf c)) (take count (fieldBytes (now (lines .entry)) q))) ⌝ }
+{
+    let mut r = [0u32; 5];
+    r[0] = flow::reach(target, places, binds);
+    let mut j: u8 = 0;
+    while j < count {
+        let x = tables::loc_of(tables::field_at(lines, q, j));
+        let at = (j as usize) + 1;
+        r[at] = flow::reach(x, places, binds);
+        j += 1;
+    }
+    r
+}
+
+// What the target and the fields of an in or read line agree with.
+fn want_sets(
+    lines: &[u8; 2560],
+    q: u8,
+    count: u8,
+    target: Loc,
+    places: u32,
+    binds: &[u32; 32],
+) -> [u32; 5]
+    requires { ⌜ LowLoc target × (count ≤ 4) × (length (now lines) ≡ 2560) ⌝ }
+    ensures { λ r. ⌜ ((E : Estimate) → E .binds ≡ now (binds .entry) → take (count + 1) r ≡ wantedOf E places (Value target) ∷ map (λ c. wantedOf E places (slotOf c)) (take count (fieldBytes (now (lines .entry)) q))) ⌝ }
+{
+    let mut r = [0u32; 5];
+    r[0] = flow::reach(target, places, binds);
+    let mut j: u8 = 0;
+    while j < count {
+        let x = tables::slot_of(tables::field_at(lines, q, j));
+        let at = (j as usize) + 1;
+        r[at] = wanted(x, places, binds);
+        j += 1;
+    }
+    r
+}
+
+// What the site and the fields of a row that an in or read line takes may be.
+fn allow_sets(lines: &[u8; 2560], q: u8, count: u8, binds: &[u32; 32]) -> [u32; 5]
+    requires { ⌜ (count ≤ 4) × (length (now lines) ≡ 2560) ⌝ }
+    ensures { λ r. ⌜ ((E : Estimate) → E .binds ≡ now (binds .entry) → take (count + 1) r ≡ anySite ∷ map (λ c. allowedOf E (slotOf c)) (take count (fieldBytes (now (lines .entry)) q))) ⌝ }
+{
+    let mut r = [0u32; 5];
+    r[0] = ANY;
+    let mut j: u8 = 0;
+    while j < count {
+        let x = tables::slot_of(tables::field_at(lines, q, j));
+        let at = (j as usize) + 1;
+        r[at] = allowed(x, binds);
+        j += 1;
+    }
+    r
+}
+
+// The rule of an out line.
+pub fn out_rule(
+    lines: &[u8; 2560],
+    q: u8,
+    count: u8,
+    target: Loc,
+    places: u32,
+    binds: &[u32; 32],
+    rows: &[u8; 1536],
+    n: usize,
+) -> bool
+    requires { ⌜ LowLoc target × (count ≤ 4) × (length (now lines) ≡ 2560) × Sized n (now rows) ⌝ }
+    ensures { λ r. ⌜ ((E : Estimate) → E .binds ≡ now (binds .entry) → E .stand ≡ rowsView n (now (rows .entry)) → r ≡ outRule E places target (map locOf (take count (fieldBytes (now (lines .entry)) q)))) ⌝ }
+{
+    let sets = out_sets(lines, q, count, target, places, binds);
+    let m = (count as usize) + 1;
+    matching::every_choice(rows, n, sets, m)
+}
+
+// The rule of an in or read line.
+pub fn get_rule(
+    lines: &[u8; 2560],
+    q: u8,
+    count: u8,
+    target: Loc,
+    places: u32,
+    binds: &[u32; 32],
+    rows: &[u8; 1536],
+    n: usize,
+) -> bool
+    requires { ⌜ LowLoc target × (count ≤ 4) × (length (now lines) ≡ 2560) × Sized n (now rows) ⌝ }
+    ensures { λ r. ⌜ ((E : Estimate) → E .binds ≡ now (binds .entry) → E .stand ≡ rowsView n (now (rows .entry)) → r ≡ getRule E places target (map slotOf (take count (fieldBytes (now (lines .entry)) q)))) ⌝ }
+{
+    let want = want_sets(lines, q, count, target, places, binds);
+    let allow = allow_sets(lines, q, count, binds);
+    let m = (count as usize) + 1;
+    matching::every_bound(rows, n, want, allow, m)
+}
+
+pub fn both(a: bool, b: bool) -> bool
+    ensures { λ r. ⌜ r ≡ (a & b) ⌝ }
+{
+    if a { b } else { false }
+}
+
+pub fn within(a: u8, b: u8) -> bool
+    ensures { λ r. ⌜ r ≡ isWithin a b ⌝ }
+{
+    a & b == a
+}
+
+// Whether site l is not in the set, or its E rights towards t hold what is needed.
+fn held(hold: &[u8; 1024], set: u32, l: u8, t: u8, need: u8) -> bool
+    requires { ⌜ (l < 32) × (t < 32) ⌝ }
+    ensures { λ r. ⌜ ((E : Estimate) → E .hold ≡ now (hold .entry) → r ≡ imp (mem l set) (isWithin need (holds E l t))) ⌝ }
+{
+    let at = 32 * (l as usize) + (t as usize);
+    if sets::has_site(set, l) {
+        return within(need, hold[at]);
+    }
+    true
+}
+
+// Whether the E rights towards t of each site of the set hold what is needed.
+fn held_over(hold: &[u8; 1024], set: u32, t: u8, need: u8) -> bool
+    requires { ⌜ t < 32 ⌝ }
+    ensures { λ r. ⌜ ((E : Estimate) → E .hold ≡ now (hold .entry) → r ≡ all (λ l. isWithin need (holds E l t)) (sites set)) ⌝ }
+{
+    let mut ok = true;
+    let mut l: u8 = 32;
+    while 0 < l {
+        l -= 1;
+        ok = both(held(hold, set, l, t, need), ok);
+    }
+    ok
+}
+
+// The rule of an eval line whose target has reach `set`, under sandbox k.
+pub fn eval_rule(boxes: &[u8; 1056], hold: &[u8; 1024], set: u32, k: u8) -> bool
+    requires { ⌜ k < 32 ⌝ }
+    ensures { λ r. ⌜ ((N : Net) (E : Estimate) (P : ℕ) (g : LocT) → N .boxes ≡ now (boxes .entry) → E .hold ≡ now (hold .entry) → set ≡ reachOf E P g → r ≡ evalRule N E P g k) ⌝ }
+{
+    let mut ok = true;
+    let mut t: u8 = 32;
+    while 0 < t {
+        t -= 1;
+        let need = flow::box_over(boxes, k, set, t);
+        ok = both(held_over(hold, set, t, need), ok);
+    }
+    ok
+}
