@@ -5,7 +5,7 @@ use mathlib.Core.Bool.{Bool, true, false, false≢true}
 use mathlib.Core.List.{List, [], _∷_}
 use Prim.Native.Nat.{ℕ, zero, suc, _+_, _-_, _*_, _/_, _%_, _<_, _≤_, _^_}
 use native.Mathlib.Omega.{arith}
-use lib.Bits.{or-comm, or-zero-l, or-zero-r}
+use lib.Bits.{or-zero-r}
 use lib.Dec.{eqb}
 use lib.ListN.{length, getD, set}
 use lib.Seq.{ext-getD}
@@ -13,9 +13,8 @@ use Rattle.sets.specs.Lists.{either, all, table, below}
 use Rattle.sets.specs.Bits.{mem, join, meet, grant, less}
 use Rattle.sets.proofs.Lists.{all-at, all-i}
 use Rattle.sets.proofs.Tables.{getD-table, length-table, same-table, Filled, filled-more, below-in, in-below}
-use Rattle.sets.proofs.Bits.{has-or, same-bits}
 use Rattle.klaim.specs.declared.Loc.{Loc}
-use Rattle.klaim.specs.Process.{Tree, evalT, node, tree}
+use Rattle.klaim.specs.Process.{Line, Tree, node, tree}
 use Rattle.klaim.specs.Net.{Net, Estimate, home, holds}
 use Rattle.klaim.specs.Analysis.{reach}
 use Rattle.klaim.specs.Report.{sure, uses, evalAdds, adds, holdAdds}
@@ -26,6 +25,7 @@ use Rattle.tables.proofs.Lines.{tree-at, Child, Next as NextOf, next}
 use Rattle.report.specs.declared.Evals.{Evals}
 use Rattle.report.specs.declared.Evals.the-variants.{Nothing, Both, Next, Sends}
 use Rattle.report.specs.Evals.{evalsOf}
+use Rattle.report.proofs.Joins.{join-assoc}
 
 -- a test that fails below n
 pub not-all : (f : ℕ → Bool) (n k : ℕ) → k < n → f k ≡ false → all f (below n) ≡ false
@@ -34,19 +34,6 @@ not-all f n k h e = go (all f (below n)) (λ t. all-at f (below-in n k h) t)
     go : (b : Bool) → (b ≡ true → f k ≡ true) → b ≡ false
     go true g = absurd (false≢true (sym e ∙ g refl))
     go false g = refl
-
--- joins in a row
-either-assoc : (a b c : Bool) → either (either a b) c ≡ either a (either b c)
-unfolding either
-either-assoc true b c = refl
-either-assoc false b c = refl
-
-pub join-assoc : (a b c : ℕ) → join (join a b) c ≡ join a (join b c)
-join-assoc a b c = same-bits _ _ (λ n. rw (has-or, has-or, has-or a (join b c) n, has-or b c n) (either-assoc _ _ _))
-
-pub join-comm : (a b : ℕ) → join a b ≡ join b a
-unfolding join
-join-comm a b = or-comm a b
 
 -- one more byte joined with its part
 pub filled-join : (g : ℕ → ℕ) {l₀ l : List ℕ} {i v : ℕ} → Filled 0 (λ k. join (getD l₀ k 0) (g k)) l₀ l i → i < length l₀ → v ≡ g i → Filled 0 (λ k. join (getD l₀ k 0) (g k)) l₀ (set l i (join (getD l i 0) v)) (i + 1)
@@ -65,11 +52,11 @@ hold-at N E {hs} {es} i e h = rw (e, h) (ap₂ less (ap (λ (k : ℕ). getD es k
     same = omega arith
 
 -- a net and an estimate with these tables
-abbrev pub netOf : List ℕ → Net
-netOf bs = record { size = 0; homes = []; boxes = bs; tuples = []; roots = []; lines = [] }
+abbrev pub netOf : List ℕ → List ℕ → List Line → Net
+netOf hs bs ls = record { size = 0; homes = hs; boxes = bs; tuples = []; roots = []; lines = ls }
 
-abbrev pub estimateOf : List ℕ → Estimate
-estimateOf us = record { binds = us; stand = []; hold = [] }
+abbrev pub estimateOf : List ℕ → List ℕ → Estimate
+estimateOf us es = record { binds = us; stand = []; hold = es }
 
 -- nothing added; one part after another
 pub add-none : (a : List ℕ) → length a ≡ 1024 → a ≡ table 1024 (λ i. join (getD a i 0) 0)
@@ -79,13 +66,14 @@ add-none a e = ext-getD 0 a _ (e ∙ sym (length-table 1024 (λ i. join (getD a 
 pub add-two : (a : List ℕ) (f g : ℕ → ℕ) {b : List ℕ} → b ≡ table 1024 (λ i. join (getD a i 0) (f i)) → table 1024 (λ i. join (getD b i 0) (g i)) ≡ table 1024 (λ i. join (getD a i 0) (join (f i) (g i)))
 add-two a f g {b} e = same-table 1024 _ _ 0 (λ i h. ap (λ (x : ℕ). join x (g i)) (ap (λ (l : List ℕ). getD l i 0) e ∙ getD-table 1024 (λ i. join (getD a i 0) (f i)) i 0 h) ∙ join-assoc _ _ _)
 
--- what one eval line adds, from the use map less the sure rights
+-- the use map of a body less the sure rights
+pub less-at : (N : Net) (E : Estimate) (m k : ℕ) (b : Tree) {us ls : List ℕ} → us ≡ table 32 (uses N E m b) → ls ≡ table 32 (λ t. less (getD us t 0) (sure N k m t)) → (t : ℕ) → t < 32 → getD ls t 0 ≡ less (uses N E m b t) (sure N k m t)
+less-at N E m k b {us} {ls} u l t h = ap (λ (x : List ℕ). getD x t 0) l ∙ getD-table 32 (λ t. less (getD us t 0) (sure N k m t)) t 0 h ∙ ap (λ (x : ℕ). less x (sure N k m t)) (ap (λ (x : List ℕ). getD x t 0) u ∙ getD-table 32 (uses N E m b) t 0 h)
+
+-- what one eval line adds
 add-eval : (N : Net) (E : Estimate) (a : List ℕ) (m k : ℕ) (b : Tree) {us ls : List ℕ} → us ≡ table 32 (uses N E m b) → ls ≡ table 32 (λ t. less (getD us t 0) (sure N k m t)) → table 1024 (λ i. join (getD a i 0) (grant (mem (i / 32) m) (getD ls (i % 32) 0))) ≡ table 1024 (λ i. join (getD a i 0) (evalAdds N E m k b (i / 32) (i % 32)))
 unfolding evalAdds
-add-eval N E a m k b {us} {ls} u l = same-table 1024 _ _ 0 (λ i h. ap (λ (x : ℕ). join (getD a i 0) (grant (mem (i / 32) m) x)) (one (i % 32) (omega arith)))
-  where
-    one : (t : ℕ) → t < 32 → getD ls t 0 ≡ less (uses N E m b t) (sure N k m t)
-    one t h = ap (λ (x : List ℕ). getD x t 0) l ∙ getD-table 32 (λ t. less (getD us t 0) (sure N k m t)) t 0 h ∙ ap (λ (x : ℕ). less x (sure N k m t)) (ap (λ (x : List ℕ). getD x t 0) u ∙ getD-table 32 (uses N E m b) t 0 h)
+add-eval N E a m k b u l = same-table 1024 _ _ 0 (λ i h. ap (λ (x : ℕ). join (getD a i 0) (grant (mem (i / 32) m) x)) (less-at N E m k b u l (i % 32) (omega arith)))
 
 -- what the recursion meets in each arm: the children, and numbers within limits
 abbrev pub Below : ℕ → List ℕ → ℕ → Evals → Type 0

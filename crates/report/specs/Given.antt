@@ -6,8 +6,11 @@ use mathlib.Core.List.{List}
 use Prim.Native.Nat.{ℕ, _+_, _*_, _<_, _≤_}
 use lib.ListN.{getD}
 use Rattle.klaim.specs.Process.{ordered}
-use Rattle.klaim.specs.Net.{Net, Estimate}
+use Rattle.klaim.specs.Net.{Root, Net, Estimate}
 use Rattle.tables.specs.View.{linesView, rootsView}
+
+abbrev pub rootOf : ℕ → ℕ → Root
+rootOf s q = record { site = s; line = q }
 
 -- m roots over n lines: each at a site, on a line
 pub record Rooted (n : ℕ) (bs : List ℕ) (m : ℕ) (rs : List ℕ) : Type 0 where

@@ -7,12 +7,11 @@ ghost use lib.ListN.{length, getD};
 ghost use Rattle.sets.specs.Lists.{table, all, below};
 ghost use Rattle.sets.specs.Bits.{mem, join, grant, less as without};
 ghost use Rattle.klaim.specs.Process.{tree};
-ghost use Rattle.klaim.specs.Net.{Root, Net, Estimate, home};
-ghost use Rattle.klaim.specs.Analysis.{placeSet};
+ghost use Rattle.klaim.specs.Net.{Net, Estimate, home};
 ghost use Rattle.klaim.specs.Report.{sure, evalAdds, adds, addsNothing, rootAdds, holdAdds, report as reportOf};
 ghost use Rattle.tables.specs.View.{linesView, rootsView, InForm};
 ghost use Rattle.report.specs.Evals.{evalsOf, nowhere};
-ghost use Rattle.report.specs.Given.{Rooted, Given};
+ghost use Rattle.report.specs.Given.{rootOf, Rooted, Given};
 use flow::UseMap;
 use klaim::Loc;
 use tables::Action;
@@ -168,6 +167,112 @@ pub fn add_evals(
             add_uses(bytes, set, less_sure(uses, boxes, sandbox, set));
             add_evals(bytes, lines, n, boxes, binds, set, body);
             add_evals(bytes, lines, n, boxes, binds, places, next);
+        }
+    }
+}
+
+// An L row's use map less the home policy of its site, added to the report.
+fn add_root(
+    bytes: &mut [u8; 1024],
+    homes: &[u8; 1024],
+    boxes: &[u8; 1056],
+    lines: &[u8; 2560],
+    n: usize,
+    binds: &[u32; 32],
+    site: u8,
+    q: u8,
+)
+    requires { ⌜ site < 32 ⌝ }
+    requires { ⌜ InForm n (now lines) q ⌝ }
+    requires { ⌜ length (now bytes) ≡ 1024 ⌝ }
+    ensures { λ r. ⌜ ((N : Net) (E : Estimate) → Given N E (now (homes .entry)) (now (boxes .entry)) n (now (lines .entry)) (now (binds .entry)) → now (bytes .exit) ≡ table 1024 (λ i. join (getD (now (bytes .entry)) i 0) (rootAdds N E (rootOf site q) (i / 32) (i % 32)))) ⌝ }
+{
+    let places = sets::single(site);
+    let uses = flow::use_map(lines, n, boxes, binds, places, q);
+    add_uses(bytes, places, less_home(uses, homes, site));
+}
+
+// The report of a net and an estimate given by their tables.
+pub fn report(
+    homes: &[u8; 1024],
+    boxes: &[u8; 1056],
+    roots: &[u8; 128],
+    nroots: usize,
+    lines: &[u8; 2560],
+    nlines: usize,
+    binds: &[u32; 32],
+    hold: &[u8; 1024],
+) -> [u8; 1024]
+    requires { ⌜ Rooted nlines (now lines) nroots (now roots) ⌝ }
+    ensures { λ r. ⌜ ((N : Net) (E : Estimate) → Given N E (now (homes .entry)) (now (boxes .entry)) nlines (now (lines .entry)) (now (binds .entry)) → N .roots ≡ rootsView nroots (now (roots .entry)) → E .hold ≡ now (hold .entry) → r ≡ reportOf N E) ⌝ }
+{
+    let mut bytes = [0u8; 1024];
+    add_holds(&mut bytes, hold, homes);
+    let mut i: usize = 0;
+    while i < nroots {
+        let site = roots[2 * i];
+        let line = roots[2 * i + 1];
+        add_root(&mut bytes, homes, boxes, lines, nlines, binds, site, line);
+        add_evals(
+            &mut bytes,
+            lines,
+            nlines,
+            boxes,
+            binds,
+            sets::single(site),
+            line,
+        );
+        i += 1;
+    }
+    bytes
+}
+
+// Whether a body sent to the sites of a reach uses no right but those that sandbox k has at each of them.
+fn body_within(
+    lines: &[u8; 2560],
+    n: usize,
+    boxes: &[u8; 1056],
+    binds: &[u32; 32],
+    set: u32,
+    body: u8,
+    k: u8,
+) -> bool
+    requires { ⌜ InForm n (now lines) body ⌝ }
+    requires { ⌜ k < 32 ⌝ }
+    ensures { λ r. ⌜ ((N : Net) (E : Estimate) → N .boxes ≡ now (boxes .entry) → E .binds ≡ now (binds .entry) → r ≡ nowhere (evalAdds N E set k (tree (linesView n (now (lines .entry))) body))) ⌝ }
+{
+    if set == 0 {
+        return true;
+    }
+    let uses = flow::use_map(lines, n, boxes, binds, set, body);
+    is_empty(less_sure(uses, boxes, k, set))
+}
+
+// Whether each eval line of line q adds nothing to a report, `places` being its place set.
+pub fn adds_nothing(
+    lines: &[u8; 2560],
+    n: usize,
+    boxes: &[u8; 1056],
+    binds: &[u32; 32],
+    places: u32,
+    q: u8,
+) -> bool
+    requires { ⌜ InForm n (now lines) q ⌝ }
+    ensures { λ r. ⌜ ((N : Net) (E : Estimate) → N .boxes ≡ now (boxes .entry) → E .binds ≡ now (binds .entry) → r ≡ addsNothing N E places (tree (linesView n (now (lines .entry))) q)) ⌝ }
+{
+    let evals = evals_of(tables::action_at(lines, q));
+    match evals {
+        Evals::Nothing => true,
+        Evals::Both(next, second) => {
+            adds_nothing(lines, n, boxes, binds, places, next)
+                && adds_nothing(lines, n, boxes, binds, places, second)
+        }
+        Evals::Next(next) => adds_nothing(lines, n, boxes, binds, places, next),
+        Evals::Sends(next, target, body, sandbox) => {
+            let set = flow::reach(target, places, binds);
+            body_within(lines, n, boxes, binds, set, body, sandbox)
+                && (adds_nothing(lines, n, boxes, binds, set, body)
+                    && adds_nothing(lines, n, boxes, binds, places, next))
         }
     }
 }
