@@ -1,13 +1,21 @@
 -- Laws of a loop down the sites of a set.
 -- Assumes nothing.
 use mathlib.Core.Path.{_≡_, refl, sym, ap, _∙_}
-use mathlib.Core.Bool.{Bool, true, false, cond}
+use mathlib.Core.Bool.{Bool, true, false, not, cond}
 use mathlib.Core.List.{List, [], _∷_}
-use Prim.Native.Nat.{ℕ, zero, suc, _-_, _<_, _≤_}
+use Prim.Native.Nat.{ℕ, zero, suc, _-_, _*_, _/_, _%_, _^_, _<_, _≤_}
 use native.Mathlib.Omega.{arith}
+use native.Mathlib.Decide.{decLt}
+use native.Mathlib.Nat.{div-one, div-eq-of-lt, mul-mod-left, mul-div-cancel, pow-suc, lt-of-lt-of-le}
 use lib.Bits.{or-zero-l}
-use Rattle.sets.specs.Lists.{_∪_, only, keep, tableFrom, table, below}
-use Rattle.sets.specs.Bits.{everyRight, mem, sites, join, meet, grant, joins, meets}
+use lib.Dec.{eqb, eqb·zero-suc, eqb·suc-zero, eqb·suc-suc}
+use lib.Pow.{pow-mono, pow-pos}
+use borrow.Author.Tests.{not-true}
+use Rattle.sets.specs.Lists.{_∪_, all, any, only, keep, tableFrom, table, below}
+use Rattle.sets.specs.Bits.{everyRight, has, mem, sites, join, meet, grant, joins, meets}
+use Rattle.sets.proofs.Lists.{all-at, any-at, none-all}
+use Rattle.sets.proofs.Tables.{below-in, in-below}
+use Rattle.sets.proofs.Bits.{has-half, has-none, same-bits}
 
 -- the sites of a set, from site l upwards
 unfoldable pub sitesFrom : ℕ → ℕ → List ℕ
@@ -58,3 +66,27 @@ module _ (f : ℕ → ℕ) where
 
     pub meets-down : (l : ℕ) → 0 < l → l ≤ 32 → meets f (sitesFrom m (l - 1)) ≡ cond (mem (l - 1) m) (meet (f (l - 1)) (meets f (sitesFrom m l))) (meets f (sitesFrom m l))
     meets-down l p q = ap (meets f) (from-down m l p q) ∙ meets-only (mem (l - 1) m) (l - 1) (sitesFrom m l)
+
+-- the set of one site
+pub mem-single : (s n : ℕ) → mem s (2 ^ n) ≡ eqb n s
+unfolding has
+mem-single zero zero = refl
+mem-single zero (suc n) = rw (div-one, pow-suc, mul-mod-left) (sym (eqb·suc-zero n))
+mem-single (suc s) zero = sym (has-half s 1) ∙ has-none s ∙ sym (eqb·zero-suc s)
+mem-single (suc s) (suc n) = sym (has-half s (2 ^ suc n)) ∙ ap (λ (z : ℕ). has z (2 ^ s)) (rw pow-suc (mul-div-cancel (2 ^ n) (omega arith))) ∙ mem-single s n ∙ sym (eqb·suc-suc n s)
+
+-- a set of sites that is not 0 has a site
+none-high : (m n : ℕ) → m < 2 ^ 32 → 32 ≤ n → has m (2 ^ n) ≡ false
+unfolding has
+none-high m n h l = rw (div-eq-of-lt (lt-of-lt-of-le h (pow-mono l)))
+
+pub some-site : (m : ℕ) → m < 2 ^ 32 → (m ≡ 0 → ⊥) → (s : ℕ) × (s < 32) × (mem s m ≡ true)
+some-site m h z = go (any (λ s. mem s m) (below 32)) refl
+  where
+    none : any (λ s. mem s m) (below 32) ≡ false → (n : ℕ) → Dec (n < 32) → has m (2 ^ n) ≡ false
+    none e n (yes l) = not-true _ (all-at (λ s. not (mem s m)) (below-in 32 n l) (none-all (λ s. mem s m) (λ s. not (mem s m)) (λ s f. ap not f) (below 32) e))
+    none e n (no l) = none-high m n h (omega arith)
+
+    go : (b : Bool) → any (λ s. mem s m) (below 32) ≡ b → (s : ℕ) × (s < 32) × (mem s m ≡ true)
+    go true e = let r = any-at (λ s. mem s m) (below 32) e in (r .0, in-below 32 (r .0) (r .1), r .2)
+    go false e = absurd (z (same-bits m 0 (λ n. none e n (decLt n 32) ∙ sym (has-none n))))

@@ -10,6 +10,7 @@ ghost use Rattle.klaim.specs.Net.{Net, Estimate, boxAt};
 ghost use Rattle.klaim.specs.Analysis.{reach as reachOf};
 ghost use Rattle.klaim.specs.Report.{sure, uses};
 ghost use Rattle.tables.specs.View.{linesView, LowLoc, InForm};
+ghost use Rattle.flow.specs.Part.{partOf};
 use klaim::Loc;
 use tables::Action;
 
@@ -178,6 +179,47 @@ impl UseMap {
     }
 }
 
+// What a line adds to a use map: the lines that follow, then a right on a target, or a sandbox.
+enum Part {
+    Nothing,
+    Both(u8, u8),
+    Same(u8),
+    Acts(u8, u8, Loc),
+    Accepts(u8, u8),
+}
+
+fn part_of(action: Action) -> Part
+    ensures { λ r. ⌜ r ≡ partOf action ⌝ }
+{
+    match action {
+        Action::Nil => Part::Nothing,
+        Action::Par { next, second } => Part::Both(next, second),
+        Action::Rep { next } => Part::Same(next),
+        Action::Out {
+            next,
+            target,
+            count: _,
+        } => Part::Acts(next, UseMap::OUT, target),
+        Action::In {
+            next,
+            target,
+            count: _,
+        } => Part::Acts(next, UseMap::IN, target),
+        Action::Read {
+            next,
+            target,
+            count: _,
+        } => Part::Acts(next, UseMap::READ, target),
+        Action::Eval {
+            next,
+            target,
+            body: _,
+            sandbox: _,
+        } => Part::Acts(next, UseMap::EVAL, target),
+        Action::Accept { next, sandbox } => Part::Accepts(next, sandbox),
+    }
+}
+
 // The use map of line q, `places` being its place set. Children have greater numbers: 256 less q falls.
 pub fn use_map(
     lines: &[u8; 2560],
@@ -190,49 +232,20 @@ pub fn use_map(
     requires { ⌜ InForm n (now lines) q ⌝ }
     ensures { λ r. ⌜ ((N : Net) (E : Estimate) → N .boxes ≡ now (boxes .entry) → E .binds ≡ now (binds .entry) → r .rights ≡ table 32 (uses N E places (tree (linesView n (now (lines .entry))) q))) ⌝ }
 {
-    let action = tables::action_at(lines, q);
-    match action {
-        Action::Nil => UseMap::empty(),
-        Action::Par { next, second } => {
+    let part = part_of(tables::action_at(lines, q));
+    match part {
+        Part::Nothing => UseMap::empty(),
+        Part::Both(next, second) => {
             let a = use_map(lines, n, boxes, binds, places, next);
             let b = use_map(lines, n, boxes, binds, places, second);
             a.join(b)
         }
-        Action::Rep { next } => use_map(lines, n, boxes, binds, places, next),
-        Action::Out {
-            next,
-            target,
-            count: _,
-        } => {
+        Part::Same(next) => use_map(lines, n, boxes, binds, places, next),
+        Part::Acts(next, right, target) => {
             let a = use_map(lines, n, boxes, binds, places, next);
-            a.acting(UseMap::OUT, target, places, binds)
+            a.acting(right, target, places, binds)
         }
-        Action::In {
-            next,
-            target,
-            count: _,
-        } => {
-            let a = use_map(lines, n, boxes, binds, places, next);
-            a.acting(UseMap::IN, target, places, binds)
-        }
-        Action::Read {
-            next,
-            target,
-            count: _,
-        } => {
-            let a = use_map(lines, n, boxes, binds, places, next);
-            a.acting(UseMap::READ, target, places, binds)
-        }
-        Action::Eval {
-            next,
-            target,
-            body: _,
-            sandbox: _,
-        } => {
-            let a = use_map(lines, n, boxes, binds, places, next);
-            a.acting(UseMap::EVAL, target, places, binds)
-        }
-        Action::Accept { next, sandbox } => {
+        Part::Accepts(next, sandbox) => {
             let a = use_map(lines, n, boxes, binds, places, next);
             a.taking(boxes, sandbox, places)
         }

@@ -1,14 +1,10 @@
 -- `use_map` meets its contract: at each action the use map is what the definition says of the line's process. 256 less the line number falls.
 -- Assumes nothing.
 use mathlib.Core.Path.{_∙_}
-use native.Mathlib.Omega.{arith}
-use Rattle.klaim.specs.Process.{node}
-use Rattle.klaim.specs.Report.{uses}
-use Rattle.tables.specs.View.{actionLine}
-use Rattle.tables.proofs.Lines.{next}
-use Rattle.flow.proofs.Laws.{join-table, join-tables, uses-at}
-use borrow.Author.Needs.{needs}
 use Prim.Native.Nat.{ℕ, _<_, _-_}
+use native.Mathlib.Omega.{arith}
+use Rattle.flow.proofs.Laws.{join-table, join-tables, below-at, usesBy, uses-at}
+use borrow.Author.Needs.{needs}
 use borrow.Fn.Kinds.{In}
 use borrow.Fn.PlainCycle.{Measures, is, falls, and}
 use Rattle.flow.proofs.use_map.Reads as use-map
@@ -18,6 +14,7 @@ use Rattle.flow.proofs.UseMap.acting.Reads as acting-reads
 use Rattle.flow.proofs.UseMap.empty.Reads as empty-reads
 use Rattle.flow.proofs.UseMap.join.Reads as join-reads
 use Rattle.flow.proofs.UseMap.taking.Reads as taking-reads
+use Rattle.flow.proofs.part_of.Reads as part-of-reads
 use Rattle.tables.proofs.action_at.Reads as action-at-reads
 use Rattle.flow.proofs.+use_map.{statement}
 use Rattle.flow.proofs.+use_map.Tie.{close}
@@ -32,10 +29,13 @@ abbrev use-map-below : ℕ → In 3 use-map-kinds.ps
 use-map-below t = and 3 use-map-kinds.ps (falls 3 use-map-kinds.ps _<_ μ-use-map t) use-map.Pre
 
 abbrev claims : ℕ → use-map-lts.Claims
-claims t = (action-at-reads.Asked, action-at-reads.Learnt, empty-reads.Asked, empty-reads.Learnt, use-map-below t, use-map.Post, join-reads.Asked, join-reads.Learnt, acting-reads.Asked, acting-reads.Learnt, taking-reads.Asked, taking-reads.Learnt)
+claims t = (action-at-reads.Asked, action-at-reads.Learnt, part-of-reads.Asked, part-of-reads.Learnt, empty-reads.Asked, empty-reads.Learnt, use-map-below t, use-map.Post, join-reads.Asked, join-reads.Learnt, acting-reads.Asked, acting-reads.Learnt, taking-reads.Asked, taking-reads.Learnt)
 
 use-map-action-at-requires : (t : ℕ) → use-map-lts.Need-action-at-requires (claims t) (use-map-at t) use-map.Post
 use-map-action-at-requires t c κs = search needs
+
+use-map-part-of-requires : (t : ℕ) → use-map-lts.Need-part-of-requires (claims t) (use-map-at t) use-map.Post
+use-map-part-of-requires t c κs = search needs
 
 use-map-enum-told : (t : ℕ) → use-map-lts.Need-enum-told (claims t) (use-map-at t) use-map.Post
 use-map-enum-told t c = search needs
@@ -43,231 +43,149 @@ use-map-enum-told t c = search needs
 use-map-empty-requires : (t : ℕ) → use-map-lts.Need-empty-requires (claims t) (use-map-at t) use-map.Post
 use-map-empty-requires t c κs = search needs
 
-use-map-enum-known-action : (t : ℕ) → use-map-lts.Need-enum-known-action (claims t) (use-map-at t) use-map.Post
-use-map-enum-known-action t c = search needs
+use-map-enum-known-part : (t : ℕ) → use-map-lts.Need-enum-known-part (claims t) (use-map-at t) use-map.Post
+use-map-enum-known-part t c = search needs
 
 use-map-use-map-requires : (t : ℕ) → use-map-lts.Need-use-map-requires (claims t) (use-map-at t) use-map.Post
 use-map-use-map-requires t c κs =
-    let s = c .before .before .before .before in
-    let d = c .before .before .before .action-at .ensures in
-    let e = c .before .action .given .1 in
-    let k = next (s .pre .1) d e in
+    let s = c .before .before .before .before .before in
+    let d = c .before .before .before .before .action-at .ensures in
+    let h = c .before .before .before .part-of .ensures in
+    let e = c .before .part .given .1 in
+    let k = below-at (s .pre .1) d h e in
     (omega (arith, k .0 .greater, s .pre .0), k .0 .form)
 
 use-map-use-map-requires-2 : (t : ℕ) → use-map-lts.Need-use-map-requires-2 (claims t) (use-map-at t) use-map.Post
 use-map-use-map-requires-2 t c κs =
-    let s = c .before .before .before .before .before in
-    let d = c .before .before .before .before .action-at .ensures in
-    let e = c .before .before .action .given .1 in
-    let k = next (s .pre .1) d e in
+    let s = c .before .before .before .before .before .before in
+    let d = c .before .before .before .before .before .action-at .ensures in
+    let h = c .before .before .before .before .part-of .ensures in
+    let e = c .before .before .part .given .1 in
+    let k = below-at (s .pre .1) d h e in
     (omega (arith, k .1 .greater, s .pre .0), k .1 .form)
 
 use-map-join-requires : (t : ℕ) → use-map-lts.Need-join-requires (claims t) (use-map-at t) use-map.Post
 use-map-join-requires t c κs = search needs
 
-use-map-enum-known-action-2 : (t : ℕ) → use-map-lts.Need-enum-known-action-2 (claims t) (use-map-at t) use-map.Post
-use-map-enum-known-action-2 t c = search needs
+use-map-enum-known-part-2 : (t : ℕ) → use-map-lts.Need-enum-known-part-2 (claims t) (use-map-at t) use-map.Post
+use-map-enum-known-part-2 t c = search needs
 
 use-map-use-map-requires-3 : (t : ℕ) → use-map-lts.Need-use-map-requires-3 (claims t) (use-map-at t) use-map.Post
 use-map-use-map-requires-3 t c κs =
-    let s = c .before .before .before .before in
-    let d = c .before .before .before .action-at .ensures in
-    let e = c .before .action2 .given .1 in
-    let k = next (s .pre .1) d e in
+    let s = c .before .before .before .before .before in
+    let d = c .before .before .before .before .action-at .ensures in
+    let h = c .before .before .before .part-of .ensures in
+    let e = c .before .part2 .given .1 in
+    let k = below-at (s .pre .1) d h e in
     (omega (arith, k .0 .greater, s .pre .0), k .0 .form)
 
-use-map-enum-known-action-3 : (t : ℕ) → use-map-lts.Need-enum-known-action-3 (claims t) (use-map-at t) use-map.Post
-use-map-enum-known-action-3 t c = search needs
+use-map-enum-known-part-3 : (t : ℕ) → use-map-lts.Need-enum-known-part-3 (claims t) (use-map-at t) use-map.Post
+use-map-enum-known-part-3 t c = search needs
 
 use-map-use-map-requires-4 : (t : ℕ) → use-map-lts.Need-use-map-requires-4 (claims t) (use-map-at t) use-map.Post
 use-map-use-map-requires-4 t c κs =
-    let s = c .before .before .before .before in
-    let d = c .before .before .before .action-at .ensures in
-    let e = c .before .action3 .given .1 in
-    let k = next (s .pre .1) d e in
+    let s = c .before .before .before .before .before in
+    let d = c .before .before .before .before .action-at .ensures in
+    let h = c .before .before .before .part-of .ensures in
+    let e = c .before .part3 .given .1 in
+    let k = below-at (s .pre .1) d h e in
     (omega (arith, k .0 .greater, s .pre .0), k .0 .form)
 
 use-map-acting-requires : (t : ℕ) → use-map-lts.Need-acting-requires (claims t) (use-map-at t) use-map.Post
 use-map-acting-requires t c κs =
-    let s = c .before .before .before .before .before in
-    let d = c .before .before .before .before .action-at .ensures in
-    let e = c .before .before .action3 .given .1 in
-    let k = next (s .pre .1) d e in
-    k .1
+    let s = c .before .before .before .before .before .before in
+    let d = c .before .before .before .before .before .action-at .ensures in
+    let h = c .before .before .before .before .part-of .ensures in
+    let e = c .before .before .part3 .given .1 in
+    below-at (s .pre .1) d h e .1
 
-use-map-enum-known-action-4 : (t : ℕ) → use-map-lts.Need-enum-known-action-4 (claims t) (use-map-at t) use-map.Post
-use-map-enum-known-action-4 t c = search needs
+use-map-enum-known-part-4 : (t : ℕ) → use-map-lts.Need-enum-known-part-4 (claims t) (use-map-at t) use-map.Post
+use-map-enum-known-part-4 t c = search needs
 
 use-map-use-map-requires-5 : (t : ℕ) → use-map-lts.Need-use-map-requires-5 (claims t) (use-map-at t) use-map.Post
 use-map-use-map-requires-5 t c κs =
-    let s = c .before .before .before .before in
-    let d = c .before .before .before .action-at .ensures in
-    let e = c .before .action4 .given .1 in
-    let k = next (s .pre .1) d e in
-    (omega (arith, k .0 .greater, s .pre .0), k .0 .form)
-
-use-map-acting-requires-2 : (t : ℕ) → use-map-lts.Need-acting-requires-2 (claims t) (use-map-at t) use-map.Post
-use-map-acting-requires-2 t c κs =
     let s = c .before .before .before .before .before in
     let d = c .before .before .before .before .action-at .ensures in
-    let e = c .before .before .action4 .given .1 in
-    let k = next (s .pre .1) d e in
-    k .1
-
-use-map-enum-known-action-5 : (t : ℕ) → use-map-lts.Need-enum-known-action-5 (claims t) (use-map-at t) use-map.Post
-use-map-enum-known-action-5 t c = search needs
-
-use-map-use-map-requires-6 : (t : ℕ) → use-map-lts.Need-use-map-requires-6 (claims t) (use-map-at t) use-map.Post
-use-map-use-map-requires-6 t c κs =
-    let s = c .before .before .before .before in
-    let d = c .before .before .before .action-at .ensures in
-    let e = c .before .action5 .given .1 in
-    let k = next (s .pre .1) d e in
-    (omega (arith, k .0 .greater, s .pre .0), k .0 .form)
-
-use-map-acting-requires-3 : (t : ℕ) → use-map-lts.Need-acting-requires-3 (claims t) (use-map-at t) use-map.Post
-use-map-acting-requires-3 t c κs =
-    let s = c .before .before .before .before .before in
-    let d = c .before .before .before .before .action-at .ensures in
-    let e = c .before .before .action5 .given .1 in
-    let k = next (s .pre .1) d e in
-    k .1
-
-use-map-enum-known-action-6 : (t : ℕ) → use-map-lts.Need-enum-known-action-6 (claims t) (use-map-at t) use-map.Post
-use-map-enum-known-action-6 t c = search needs
-
-use-map-use-map-requires-7 : (t : ℕ) → use-map-lts.Need-use-map-requires-7 (claims t) (use-map-at t) use-map.Post
-use-map-use-map-requires-7 t c κs =
-    let s = c .before .before .before .before in
-    let d = c .before .before .before .action-at .ensures in
-    let e = c .before .action6 .given .1 in
-    let k = next (s .pre .1) d e in
-    (omega (arith, k .0 .greater, s .pre .0), k .0 .form)
-
-use-map-acting-requires-4 : (t : ℕ) → use-map-lts.Need-acting-requires-4 (claims t) (use-map-at t) use-map.Post
-use-map-acting-requires-4 t c κs =
-    let s = c .before .before .before .before .before in
-    let d = c .before .before .before .before .action-at .ensures in
-    let e = c .before .before .action6 .given .1 in
-    let k = next (s .pre .1) d e in
-    k .1
-
-use-map-enum-known-action-7 : (t : ℕ) → use-map-lts.Need-enum-known-action-7 (claims t) (use-map-at t) use-map.Post
-use-map-enum-known-action-7 t c = search needs
-
-use-map-use-map-requires-8 : (t : ℕ) → use-map-lts.Need-use-map-requires-8 (claims t) (use-map-at t) use-map.Post
-use-map-use-map-requires-8 t c κs =
-    let s = c .before .before .before .before in
-    let d = c .before .before .before .action-at .ensures in
-    let e = c .before .action7 .given .1 in
-    let k = next (s .pre .1) d e in
+    let h = c .before .before .before .part-of .ensures in
+    let e = c .before .part4 .given .1 in
+    let k = below-at (s .pre .1) d h e in
     (omega (arith, k .0 .greater, s .pre .0), k .0 .form)
 
 use-map-taking-requires : (t : ℕ) → use-map-lts.Need-taking-requires (claims t) (use-map-at t) use-map.Post
 use-map-taking-requires t c κs =
-    let s = c .before .before .before .before .before in
-    let d = c .before .before .before .before .action-at .ensures in
-    let e = c .before .before .action7 .given .1 in
-    let k = next (s .pre .1) d e in
-    k .1
+    let s = c .before .before .before .before .before .before in
+    let d = c .before .before .before .before .before .action-at .ensures in
+    let h = c .before .before .before .before .part-of .ensures in
+    let e = c .before .before .part4 .given .1 in
+    below-at (s .pre .1) d h e .1
 
 use-map-returns : (t : ℕ) → use-map-lts.Need-returns (claims t) (use-map-at t) use-map.Post
-unfolding uses node actionLine
+unfolding usesBy
 use-map-returns t c =
-    let s = c .before .before .before .before in
-    let d = c .before .before .before .action-at .ensures in
-    let e = c .before .enum-told .given .1 in
-    λ N E b v. c .empty .ensures ∙ uses-at N E (s .args .places) (s .pre .1) d e
-
-use-map-returns-2 : (t : ℕ) → use-map-lts.Need-returns-2 (claims t) (use-map-at t) use-map.Post
-unfolding uses node actionLine
-use-map-returns-2 t c =
-    let s = c .before .before .before .before .before .before .before in
-    let d = c .before .before .before .before .before .before .action-at .ensures in
-    let e = c .before .before .before .before .action .given .1 in
-    λ N E b v. c .join .ensures ∙ join-tables _ _ (c .before .before .use-map .ensures N E b v) (c .before .use-map2 .ensures N E b v) ∙ uses-at N E (s .args .places) (s .pre .1) d e
-
-use-map-returns-3 : (t : ℕ) → use-map-lts.Need-returns-3 (claims t) (use-map-at t) use-map.Post
-unfolding uses node actionLine
-use-map-returns-3 t c =
     let s = c .before .before .before .before .before in
     let d = c .before .before .before .before .action-at .ensures in
-    let e = c .before .before .action2 .given .1 in
-    λ N E b v. c .use-map3 .ensures N E b v ∙ uses-at N E (s .args .places) (s .pre .1) d e
+    let h = c .before .before .before .part-of .ensures in
+    let e = c .before .enum-told .given .1 in
+    λ N E b v. c .empty .ensures ∙ uses-at (s .pre .1) d h e N E (s .args .places)
+
+use-map-returns-2 : (t : ℕ) → use-map-lts.Need-returns-2 (claims t) (use-map-at t) use-map.Post
+unfolding usesBy
+use-map-returns-2 t c =
+    let s = c .before .before .before .before .before .before .before .before in
+    let d = c .before .before .before .before .before .before .before .action-at .ensures in
+    let h = c .before .before .before .before .before .before .part-of .ensures in
+    let e = c .before .before .before .before .part .given .1 in
+    λ N E b v. c .join .ensures ∙ join-tables _ _ (c .before .before .use-map .ensures N E b v) (c .before .use-map2 .ensures N E b v) ∙ uses-at (s .pre .1) d h e N E (s .args .places)
+
+use-map-returns-3 : (t : ℕ) → use-map-lts.Need-returns-3 (claims t) (use-map-at t) use-map.Post
+unfolding usesBy
+use-map-returns-3 t c =
+    let s = c .before .before .before .before .before .before in
+    let d = c .before .before .before .before .before .action-at .ensures in
+    let h = c .before .before .before .before .part-of .ensures in
+    let e = c .before .before .part2 .given .1 in
+    λ N E b v. c .use-map3 .ensures N E b v ∙ uses-at (s .pre .1) d h e N E (s .args .places)
 
 use-map-returns-4 : (t : ℕ) → use-map-lts.Need-returns-4 (claims t) (use-map-at t) use-map.Post
-unfolding uses node actionLine
+unfolding usesBy
 use-map-returns-4 t c =
-    let s = c .before .before .before .before .before .before in
-    let d = c .before .before .before .before .before .action-at .ensures in
-    let e = c .before .before .before .action3 .given .1 in
-    λ N E b v. c .acting .ensures E v ∙ join-table _ _ (c .before .use-map4 .ensures N E b v) ∙ uses-at N E (s .args .places) (s .pre .1) d e
+    let s = c .before .before .before .before .before .before .before in
+    let d = c .before .before .before .before .before .before .action-at .ensures in
+    let h = c .before .before .before .before .before .part-of .ensures in
+    let e = c .before .before .before .part3 .given .1 in
+    λ N E b v. c .acting .ensures E v ∙ join-table _ _ (c .before .use-map4 .ensures N E b v) ∙ uses-at (s .pre .1) d h e N E (s .args .places)
 
 use-map-returns-5 : (t : ℕ) → use-map-lts.Need-returns-5 (claims t) (use-map-at t) use-map.Post
-unfolding uses node actionLine
+unfolding usesBy
 use-map-returns-5 t c =
-    let s = c .before .before .before .before .before .before in
-    let d = c .before .before .before .before .before .action-at .ensures in
-    let e = c .before .before .before .action4 .given .1 in
-    λ N E b v. c .acting2 .ensures E v ∙ join-table _ _ (c .before .use-map5 .ensures N E b v) ∙ uses-at N E (s .args .places) (s .pre .1) d e
-
-use-map-returns-6 : (t : ℕ) → use-map-lts.Need-returns-6 (claims t) (use-map-at t) use-map.Post
-unfolding uses node actionLine
-use-map-returns-6 t c =
-    let s = c .before .before .before .before .before .before in
-    let d = c .before .before .before .before .before .action-at .ensures in
-    let e = c .before .before .before .action5 .given .1 in
-    λ N E b v. c .acting3 .ensures E v ∙ join-table _ _ (c .before .use-map6 .ensures N E b v) ∙ uses-at N E (s .args .places) (s .pre .1) d e
-
-use-map-returns-7 : (t : ℕ) → use-map-lts.Need-returns-7 (claims t) (use-map-at t) use-map.Post
-unfolding uses node actionLine
-use-map-returns-7 t c =
-    let s = c .before .before .before .before .before .before in
-    let d = c .before .before .before .before .before .action-at .ensures in
-    let e = c .before .before .before .action6 .given .1 in
-    λ N E b v. c .acting4 .ensures E v ∙ join-table _ _ (c .before .use-map7 .ensures N E b v) ∙ uses-at N E (s .args .places) (s .pre .1) d e
-
-use-map-returns-8 : (t : ℕ) → use-map-lts.Need-returns-8 (claims t) (use-map-at t) use-map.Post
-unfolding uses node actionLine
-use-map-returns-8 t c =
-    let s = c .before .before .before .before .before .before in
-    let d = c .before .before .before .before .before .action-at .ensures in
-    let e = c .before .before .before .action7 .given .1 in
-    λ N E b v. c .taking .ensures N b ∙ join-table _ _ (c .before .use-map8 .ensures N E b v) ∙ uses-at N E (s .args .places) (s .pre .1) d e
+    let s = c .before .before .before .before .before .before .before in
+    let d = c .before .before .before .before .before .before .action-at .ensures in
+    let h = c .before .before .before .before .before .part-of .ensures in
+    let e = c .before .before .before .part4 .given .1 in
+    λ N E b v. c .taking .ensures N b ∙ join-table _ _ (c .before .use-map5 .ensures N E b v) ∙ uses-at (s .pre .1) d h e N E (s .args .places)
 
 pub +use-map-spec : {M : Type 1} → statement M
 +use-map-spec = close μ-use-map λ t. use-map-lts.spec (claims t)
     (use-map-at t)
     use-map.Post
     (use-map-action-at-requires t)
+    (use-map-part-of-requires t)
     (use-map-enum-told t)
     (use-map-empty-requires t)
-    (use-map-enum-known-action t)
+    (use-map-enum-known-part t)
     (use-map-use-map-requires t)
     (use-map-use-map-requires-2 t)
     (use-map-join-requires t)
-    (use-map-enum-known-action-2 t)
+    (use-map-enum-known-part-2 t)
     (use-map-use-map-requires-3 t)
-    (use-map-enum-known-action-3 t)
+    (use-map-enum-known-part-3 t)
     (use-map-use-map-requires-4 t)
     (use-map-acting-requires t)
-    (use-map-enum-known-action-4 t)
+    (use-map-enum-known-part-4 t)
     (use-map-use-map-requires-5 t)
-    (use-map-acting-requires-2 t)
-    (use-map-enum-known-action-5 t)
-    (use-map-use-map-requires-6 t)
-    (use-map-acting-requires-3 t)
-    (use-map-enum-known-action-6 t)
-    (use-map-use-map-requires-7 t)
-    (use-map-acting-requires-4 t)
-    (use-map-enum-known-action-7 t)
-    (use-map-use-map-requires-8 t)
     (use-map-taking-requires t)
     (use-map-returns t)
     (use-map-returns-2 t)
     (use-map-returns-3 t)
     (use-map-returns-4 t)
     (use-map-returns-5 t)
-    (use-map-returns-6 t)
-    (use-map-returns-7 t)
-    (use-map-returns-8 t)

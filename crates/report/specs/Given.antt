@@ -1,0 +1,27 @@
+-- What the tables handed to `report` stand for, and what they must meet.
+-- Assumes nothing.
+use mathlib.Core.Path.{_≡_}
+use mathlib.Core.Bool.{true}
+use mathlib.Core.List.{List}
+use Prim.Native.Nat.{ℕ, _+_, _*_, _<_, _≤_}
+use lib.ListN.{getD}
+use Rattle.klaim.specs.Process.{ordered}
+use Rattle.klaim.specs.Net.{Root, Net, Estimate}
+use Rattle.tables.specs.View.{linesView, rootsView}
+
+abbrev pub rootOf : ℕ → ℕ → Root
+rootOf s q = record { site = s; line = q }
+
+-- m roots over n lines: each at a site, on a line
+pub record Rooted (n : ℕ) (bs : List ℕ) (m : ℕ) (rs : List ℕ) : Type 0 where
+  pub few : m ≤ 64
+  pub inOrder : ordered (linesView n bs) ≡ true
+  pub placed : (i : ℕ) → i < m → getD rs (2 * i) 0 < 32
+  pub present : (i : ℕ) → i < m → getD rs (2 * i + 1) 0 < n
+
+-- a net and an estimate have these tables
+pub record Given (N : Net) (E : Estimate) (homes boxes : List ℕ) (n : ℕ) (lines : List ℕ) (binds : List ℕ) : Type 0 where
+  pub homesIs : N .homes ≡ homes
+  pub boxesIs : N .boxes ≡ boxes
+  pub linesIs : N .lines ≡ linesView n lines
+  pub bindsIs : E .binds ≡ binds
