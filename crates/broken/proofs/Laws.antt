@@ -16,7 +16,7 @@ use Rattle.tables.specs.View.{fieldBytes, linesView, actionLine, Decoded, InFor
 use Rattle.tables.proofs.Lines.{tree-at}
 use Rattle.broken.specs.Lowest.{lowest}
 
-lowest-high : (xs : List ℕ) → lowest xs ≤ 256
+pub lowest-high : (xs : List ℕ) → lowest xs ≤ 256
 unfolding lowest
 lowest-high [] = omega arith
 lowest-high (x ∷ xs) = omega (arith, lowest-high xs)

@@ -14,7 +14,7 @@ use tables::Action;
 // Stands for no line.
 pub const NONE: u16 = 256;
 
-fn lesser(a: u16, b: u16) -> u16
+pub fn lesser(a: u16, b: u16) -> u16
     ensures { λ r. ⌜ r ≡ min a b ⌝ }
 {
     if a < b { a } else { b }

@@ -24,14 +24,14 @@ fn in_set(set: u32, v: u8) -> bool
     false
 }
 
-fn wide(x: u8) -> usize
+pub fn wide(x: u8) -> usize
     ensures { λ r. ⌜ r ≡ x ⌝ }
 {
     x as usize
 }
 
 // How many sites row i of a table of tuples has.
-fn row_len(rows: &[u8; 1536], i: usize) -> usize
+pub fn row_len(rows: &[u8; 1536], i: usize) -> usize
     requires { ⌜ (i < 256) × (length (now rows) ≡ 1536) ⌝ }
     ensures { λ r. ⌜ r ≡ length (rowAt (now (rows .entry)) i) ⌝ }
 {

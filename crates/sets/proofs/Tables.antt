@@ -88,3 +88,14 @@ below-in n s h = from-in n 0 s (omega arith) (omega arith)
 pub in-below : (n s : ℕ) → Elem s (below n) → s < n
 unfolding below table
 in-below n s h = omega (arith, in-from n 0 s h)
+
+from-all : {A : Type 0} (f : A → Bool) (n i : ℕ) (g : ℕ → A) → all f (tableFrom n i g) ≡ true → (k : ℕ) → k < n → f (g (i + k)) ≡ true
+unfolding all tableFrom
+from-all f zero i g t k h = absurd (omega arith)
+from-all f (suc n) i g t zero h = ap (λ (j : ℕ). f (g j)) (omega arith) ∙ and-l _ _ t
+from-all f (suc n) i g t (suc k) h = ap (λ (j : ℕ). f (g j)) (omega arith) ∙ from-all f n (suc i) g (and-r _ _ t) k (omega arith)
+
+-- a test of a whole table, at one place
+pub table-all : {A : Type 0} (f : A → Bool) (n : ℕ) (g : ℕ → A) → all f (table n g) ≡ true → (k : ℕ) → k < n → f (g k) ≡ true
+unfolding table
+table-all f n g t k h = ap (λ (j : ℕ). f (g j)) (omega arith) ∙ from-all f n 0 g t k h

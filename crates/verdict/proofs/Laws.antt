@@ -1,0 +1,152 @@
+-- Laws of the verdict as the code finds it.
+-- Assumes nothing.
+use mathlib.Core.Path.{_≡_, refl, sym, ap, ap₂, subst, _∙_}
+use mathlib.Core.Bool.{Bool, true, false, cond}
+use mathlib.Core.List.{List, [], _∷_, _++_, map}
+use mathlib.Core.Option.{Option, none, some, Option·map}
+use Prim.Native.Nat.{ℕ, zero, suc, _+_, _*_, _-_, _<_, _≤_, _^_, min}
+use native.Mathlib.Omega.{arith}
+use native.Mathlib.Decide.{ℕ-discrete}
+use borrow.Author.Tests.{eq-eqb, ne-eqb}
+use lib.Dec.{eqb}
+use lib.ListN.{length, getD, take, drop, set, length-take, drop-of-length-le}
+use lib.Seq.{take-suc, take-suc-set, take-all, drop-cons}
+use Rattle.sets.specs.Lists.{Elem, All, done, more, _&_, all, any, same, only, keep, below, tableFrom, table, concat, _∪_}
+use Rattle.sets.specs.Bits.{has, mem, sites}
+use Rattle.sets.proofs.Lists.{and-l, and-r, all-at, ltb-lt, map-append, same-eq, All-union, All-turn}
+use Rattle.sets.proofs.Tables.{below-in, getD-table, length-table}
+use Rattle.klaim.specs.Process.{Line, tree}
+use Rattle.klaim.specs.Net.{Root, Net, Estimate}
+use Rattle.klaim.specs.Analysis.{choices, firstNot, least, stands, broken, placeSet, process, Verdict, accepted, brokenT, brokenQ, brokenTuple, brokenLine, verdictOf, verdict}
+use Rattle.klaim.specs.Invariant.{allBelow}
+use Rattle.tables.specs.View.{rowAt, rootAt, linesView}
+use Rattle.broken.specs.Lowest.{lowest, found}
+use Rattle.broken.proofs.Laws.{lowest-both}
+use Rattle.broken.proofs.Lines.{broken-low, least-found}
+use Rattle.matching.proofs.Laws.{row-long, row-get}
+use Rattle.verdict.specs.Verdict.{placeOf}
+
+-- a set of one site has that site alone
+single-test : all (λ v. same (sites (2 ^ v)) (v ∷ [])) (below 32) ≡ true
+unfolding all below table tableFrom has _&_ sites keep only _∪_ same
+single-test = refl
+
+sites-single : (v : ℕ) → v < 32 → sites (2 ^ v) ≡ v ∷ []
+sites-single v h = same-eq _ _ (all-at (λ v. same (sites (2 ^ v)) (v ∷ [])) (below-in 32 v h) single-test)
+
+and-one : (b : Bool) → (b & true) ≡ b
+unfolding _&_
+and-one true = refl
+and-one false = refl
+
+-- the one choice from sets of one site each
+pub single-choice : (t : List ℕ) (f : List ℕ → Bool) → allBelow 32 t ≡ true → choices (map sites (map (λ v. 2 ^ v) t)) f ≡ f t
+unfolding choices allBelow all
+single-choice [] f h = refl
+single-choice (v ∷ vs) f h =
+    ap (all (λ x. choices (map sites (map (λ v. 2 ^ v) vs)) (λ ys. f (x ∷ ys)))) (sites-single v (ltb-lt v 32 (and-l _ _ h)))
+    ∙ and-one (choices (map sites (map (λ v. 2 ^ v) vs)) (λ ys. f (v ∷ ys)))
+    ∙ single-choice vs (λ ys. f (v ∷ ys)) (and-r _ _ h)
+
+-- one more set of one site
+pub singles-more : (row r : List ℕ) (j v : ℕ) → j < length row → j < length r → take j r ≡ map (λ v. 2 ^ v) (take j row) → v ≡ getD row j 0 → (k : ℕ) → suc j ≡ k → take k (set r j (2 ^ v)) ≡ map (λ v. 2 ^ v) (take k row)
+singles-more row r j v h l e w k q =
+    ap (λ (n : ℕ). take n (set r j (2 ^ v))) (sym q)
+    ∙ take-suc-set r j (2 ^ v) l
+    ∙ ap₂ (λ (xs : List ℕ) (y : ℕ). xs ++ (2 ^ y ∷ [])) e w
+    ∙ sym (ap (map (λ v. 2 ^ v)) (ap (λ (n : ℕ). take n row) (sym q) ∙ take-suc row j 0 h) ∙ map-append (λ v. 2 ^ v) (take j row) (getD row j 0 ∷ []))
+
+-- a site of a row is below 32
+pub row-low : (row : List ℕ) (j : ℕ) → allBelow 32 row ≡ true → j < length row → getD row j 0 < 32
+unfolding allBelow all
+row-low [] j h l = absurd (omega arith)
+row-low (v ∷ vs) zero h l = ltb-lt v 32 (and-l _ _ h)
+row-low (v ∷ vs) (suc j) h l = row-low vs j (and-r _ _ h) (omega arith)
+
+-- the first place that does not pass
+module _ {A : Type 0} (f : A → Bool) where
+  first-at : (xs : List A) (i : ℕ) (d : A) → ((k : ℕ) → k < i → f (getD xs k d) ≡ true) → i < length xs → f (getD xs i d) ≡ false → firstNot f xs ≡ some i
+  unfolding firstNot
+  first-at [] i d h l e = absurd (omega arith)
+  first-at (x ∷ xs) zero d h l e = ap (λ (b : Bool). cond b (Option·map suc (firstNot f xs)) (some 0)) e
+  first-at (x ∷ xs) (suc i) d h l e =
+      ap (λ (b : Bool). cond b (Option·map suc (firstNot f xs)) (some 0)) (h 0 (omega arith))
+      ∙ ap (Option·map suc) (first-at xs i d (λ k q. h (suc k) (omega arith)) (omega arith) e)
+
+  first-none : (xs : List A) (d : A) → ((k : ℕ) → k < length xs → f (getD xs k d) ≡ true) → firstNot f xs ≡ none
+  unfolding firstNot
+  first-none [] d h = refl
+  first-none (x ∷ xs) d h =
+      ap (λ (b : Bool). cond b (Option·map suc (firstNot f xs)) (some 0)) (h 0 (omega arith))
+      ∙ ap (Option·map suc) (first-none xs d (λ k q. h (suc k) (omega arith)))
+
+  -- of a table
+  module _ (n : ℕ) (g : ℕ → A) where
+    pub table-at : (i : ℕ) → ((k : ℕ) → k < i → f (g k) ≡ true) → i < n → f (g i) ≡ false → placeOf n i ≡ firstNot f (table n g)
+    unfolding placeOf
+    table-at i h l e =
+        rw (ne-eqb i n (λ q. omega arith))
+        (sym (first-at (table n g) i (g 0) (λ k q. ap f (getD-table n g k (g 0) (omega arith)) ∙ h k q) (omega (arith, length-table n g)) (ap f (getD-table n g i (g 0) l) ∙ e)))
+
+    pub table-none : (i : ℕ) → ((k : ℕ) → k < i → f (g k) ≡ true) → i ≡ n → placeOf n i ≡ firstNot f (table n g)
+    unfolding placeOf
+    table-none i h e =
+        rw (eq-eqb i n e)
+        (sym (first-none (table n g) (g 0) (λ k q. let l : k < n = omega (arith, length-table n g) in ap f (getD-table n g k (g 0) l) ∙ h k (omega arith))))
+
+-- one more place passes
+pub below-more : (P : ℕ → Type 0) (i k : ℕ) → suc i ≡ k → ((j : ℕ) → j < i → P j) → P i → (j : ℕ) → j < k → P j
+below-more P i k e h p j l = go (ℕ-discrete j i)
+  where
+    go : Dec (j ≡ i) → P j
+    go (yes q) = subst P (sym q) p
+    go (no q) = h j (omega arith)
+
+-- the least over the roots, from root i on
+module _ {A : Type 0} (F : A → List ℕ) (n : ℕ) (g : ℕ → A) where
+  pub least-end : 256 ≡ lowest (concat F (drop n (table n g)))
+  unfolding lowest concat
+  least-end = ap (λ (xs : List A). lowest (concat F xs)) (sym (drop-of-length-le (table n g) {i = n} (omega (arith, length-table n g))))
+
+  pub least-down : (i : ℕ) → 0 < i → i ≤ n → min (lowest (F (g (i - 1)))) (lowest (concat F (drop i (table n g)))) ≡ lowest (concat F (drop (i - 1) (table n g)))
+  unfolding concat
+  least-down i p l = sym (lowest-both (F (g (i - 1))) (concat F (drop i (table n g)))) ∙ sym (ap (λ (xs : List A). lowest (concat F xs)) here)
+    where
+      back : suc (i - 1) ≡ i
+      back = omega arith
+
+      here : drop (i - 1) (table n g) ≡ g (i - 1) ∷ drop i (table n g)
+      here =
+          drop-cons (table n g) (i - 1) (g (i - 1)) (omega (arith, length-table n g))
+          ∙ ap (λ (x : A). x ∷ drop (suc (i - 1)) (table n g)) (getD-table n g (i - 1) (g (i - 1)) (omega arith))
+          ∙ ap (λ (k : ℕ). g (i - 1) ∷ drop k (table n g)) back
+
+-- the broken lines of a root
+pub root-broken : (N : Net) (E : Estimate) (rs bs : List ℕ) (n i : ℕ) → N .lines ≡ linesView n bs → broken N E (2 ^ getD rs (2 * i) 0) (tree (linesView n bs) (getD rs (2 * i + 1) 0)) ≡ broken N E (placeSet (rootAt rs i .site)) (process N (rootAt rs i))
+unfolding placeSet rootAt
+root-broken N E rs bs n i e = ap (λ (ls : List Line). broken N E (2 ^ getD rs (2 * i) 0) (tree ls (getD rs (2 * i + 1) 0))) (sym e)
+
+-- the verdict by the two places
+module _ (i n q : ℕ) where
+  pub tuple-verdict : (i ≡ n → ⊥) → brokenT i ≡ verdictOf (placeOf n i) (found q)
+  unfolding placeOf verdictOf
+  tuple-verdict h = rw (ne-eqb i n h)
+
+  pub line-verdict : i ≡ n → (q ≡ 256 → ⊥) → brokenQ q ≡ verdictOf (placeOf n i) (found q)
+  unfolding placeOf found verdictOf
+  line-verdict e h = rw (eq-eqb i n e, ne-eqb q 256 h)
+
+  pub no-verdict : i ≡ n → q ≡ 256 → accepted ≡ verdictOf (placeOf n i) (found q)
+  unfolding placeOf found verdictOf
+  no-verdict e h = rw (eq-eqb i n e, eq-eqb q 256 h)
+
+roots-low : (N : Net) (E : Estimate) (rs : List Root) → length (N .lines) ≤ 256 → All (λ x. x < 256) (concat (λ r. broken N E (placeSet (r .site)) (process N r)) rs)
+unfolding concat
+roots-low N E [] h = done
+roots-low N E (r ∷ rs) h = All-union (All-turn (λ x l. omega arith) (broken-low N E (placeSet (r .site)) (N .lines) (r .line))) (roots-low N E rs h)
+
+pub verdict-is : (N : Net) (E : Estimate) (i n q : ℕ) (ts ss : List (List ℕ)) (rs : List Root) → length (N .lines) ≤ 256 → N .tuples ≡ ts → E .stand ≡ ss → N .roots ≡ rs → placeOf n i ≡ firstNot (λ t. any (same t) ss) ts → q ≡ lowest (concat (λ r. broken N E (placeSet (r .site)) (process N r)) rs) → verdictOf (placeOf n i) (found q) ≡ verdict N E
+unfolding verdict brokenTuple brokenLine stands
+verdict-is N E i n q ts ss rs few t s r p l =
+    ap₂ verdictOf (p ∙ ap₂ (λ (ss ts : List (List ℕ)). firstNot (λ t. any (same t) ss) ts) (sym s) (sym t))
+    (ap found l ∙ sym (least-found _ (roots-low N E rs few)) ∙ ap (λ (rs : List Root). least (concat (λ r. broken N E (placeSet (r .site)) (process N r)) rs)) (sym r))
