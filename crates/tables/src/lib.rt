@@ -37,6 +37,11 @@ pub const ROOT_BYTES: usize = 128;
 
 pub const LINE_BYTES: usize = 2560;
 
+// Bytes of a tuple, and of a root: its site, then its line.
+pub const TUPLE: usize = 6;
+
+pub const ROOT: usize = 2;
+
 // Bytes of a line, the first its kind; where the line that follows stands, the second branch or body, the sandbox, the target,
 // how many fields, the fields.
 pub const LINE: usize = 10;

@@ -27,14 +27,11 @@ loop-holds : tie.Need-loop-holds Inv-loop μ-loop
 loop-holds c =
     (omega arith, ap ListN.length (c .add-holds .ensures (netOf _ [] []) (estimateOf [] _) refl refl) ∙ length-table 1024 _, λ N E G h. far-none N E _ (c .add-holds .ensures N E (G .homesIs) h))
 
-mul-site : tie.Need-mul-site Inv-loop μ-loop
-mul-site c = search needs
+mul-at : tie.Need-mul-at Inv-loop μ-loop
+mul-at c = search needs
 
 element-copy-out-site : tie.Need-element-copy-out-site Inv-loop μ-loop
-element-copy-out-site c = omega (arith, c .before .before .before .before .pre .few)
-
-mul-line : tie.Need-mul-line Inv-loop μ-loop
-mul-line c = search needs
+element-copy-out-site c = search needs
 
 add-line : tie.Need-add-line Inv-loop μ-loop
 add-line c = search needs
@@ -85,9 +82,8 @@ report-spec =
     μ-loop
     add-holds-requires
     loop-holds
-    mul-site
+    mul-at
     element-copy-out-site
-    mul-line
     add-line
     element-copy-out-line
     add-root-requires
