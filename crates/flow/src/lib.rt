@@ -1,7 +1,7 @@
 //! Reach and use map: what a process may touch, by the estimate.
 ghost use mathlib.Core.Path.{_≡_};
 ghost use mathlib.Core.Bool.{cond};
-ghost use Prim.Native.Nat.{ℕ, _<_};
+ghost use Prim.Native.Nat.{_<_};
 ghost use lib.ListN.{getD};
 ghost use Rattle.sets.specs.Lists.{table};
 ghost use Rattle.sets.specs.Bits.{acceptBit, mem, sites, join, meet, grant, joins};

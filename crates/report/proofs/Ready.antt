@@ -1,18 +1,16 @@
 -- What a net and an estimate that were read meet: the conditions of `report`.
 -- Assumes nothing.
-use mathlib.Core.Path.{_≡_, refl, sym, ap, subst, _∙_}
-use mathlib.Core.List.{List}
+use mathlib.Core.Path.{_≡_, refl, ap, subst}
 use Prim.Native.Nat.{ℕ, zero, suc, _+_, _<_}
 use native.Mathlib.Omega.{arith}
 use native.Mathlib.Nat.{add-zero}
-use Rattle.sets.specs.Lists.{Elem, first, later, All, table, tableFrom}
+use Rattle.sets.specs.Lists.{Elem, first, later, table, tableFrom}
 use Rattle.sets.proofs.Lists.{All-in}
 use Rattle.sets.proofs.Tables.{length-table}
-use Rattle.klaim.specs.Net.{Root}
 use Rattle.klaim.proofs.Reader.{RootOk, NetOk}
 use Rattle.tables.specs.declared.Net.{Net}
 use Rattle.tables.specs.declared.Estimate.{Estimate}
-use Rattle.tables.specs.View.{linesView, rootAt, rootsView, netView, estimateView}
+use Rattle.tables.specs.View.{rootAt, rootsView, netView, estimateView}
 use Rattle.tables.proofs.Lines.{length-view}
 use Rattle.report.specs.Given.{Rooted, Given}
 

@@ -1,7 +1,7 @@
 //! The report, and whether a process adds nothing to one.
 ghost use mathlib.Core.Path.{_≡_};
 ghost use mathlib.Core.Bool.{true};
-ghost use Prim.Native.Nat.{ℕ, _<_, _/_, _%_};
+ghost use Prim.Native.Nat.{_<_, _/_, _%_};
 ghost use lib.Dec.{eqb};
 ghost use lib.ListN.{length, getD};
 ghost use Rattle.sets.specs.Lists.{table, all, below};
@@ -11,7 +11,7 @@ ghost use Rattle.klaim.specs.Net.{Net, Estimate, home};
 ghost use Rattle.klaim.specs.Report.{sure, evalAdds, adds, addsNothing, rootAdds, holdAdds, report as reportOf};
 ghost use Rattle.tables.specs.View.{linesView, rootsView, InForm};
 ghost use Rattle.report.specs.Evals.{evalsOf, nowhere};
-ghost use Rattle.report.specs.Given.{rootOf, Rooted, Given};
+ghost use Rattle.report.specs.Given.{aRoot, Rooted, Given};
 use flow::UseMap;
 use klaim::Loc;
 use tables::Action;
@@ -184,7 +184,7 @@ fn add_root(
     requires { ⌜ site < 32 ⌝ }
     requires { ⌜ InForm n (now lines) q ⌝ }
     requires { ⌜ length (now bytes) ≡ 1024 ⌝ }
-    ensures { λ r. ⌜ ((N : Net) (E : Estimate) → Given N E (now (homes .entry)) (now (boxes .entry)) n (now (lines .entry)) (now (binds .entry)) → now (bytes .exit) ≡ table 1024 (λ i. join (getD (now (bytes .entry)) i 0) (rootAdds N E (rootOf site q) (i / 32) (i % 32)))) ⌝ }
+    ensures { λ r. ⌜ ((N : Net) (E : Estimate) → Given N E (now (homes .entry)) (now (boxes .entry)) n (now (lines .entry)) (now (binds .entry)) → now (bytes .exit) ≡ table 1024 (λ i. join (getD (now (bytes .entry)) i 0) (rootAdds N E (aRoot site q) (i / 32) (i % 32)))) ⌝ }
 {
     let places = sets::single(site);
     let uses = flow::use_map(lines, n, boxes, binds, places, q);

@@ -11,7 +11,7 @@ use lib.Seq.{take-all, getD-take}
 use Rattle.sets.specs.Lists.{Elem, first, later}
 use Rattle.sets.proofs.Tables.{getD-table, length-table}
 use Rattle.klaim.specs.declared.Loc.{Loc}
-use Rattle.klaim.specs.Process.{Line, Tree, lineAt, children, node, ordered, tree}
+use Rattle.klaim.specs.Process.{Line, lineAt, children, node, tree}
 use Rattle.klaim.specs.Process as Process
 use Rattle.klaim.proofs.Process.{tree-node, child-greater, child-line}
 use Rattle.tables.specs.declared.Action.{Action}

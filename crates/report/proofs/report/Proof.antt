@@ -8,7 +8,7 @@ use Rattle.sets.proofs.Tables.{length-table}
 use Rattle.klaim.specs.Net.{Net, Estimate}
 use Rattle.tables.specs.View.{linesView, rootsView}
 use Rattle.report.specs.Given.{Given}
-use Rattle.report.proofs.Laws.{netOf, estimateOf}
+use Rattle.report.proofs.Laws.{someNet, someEstimate}
 use Rattle.report.proofs.Whole.{soFar, far-none, far-more, far-all}
 use borrow.Author.Needs.{needs}
 use Rattle.report.proofs.report.Statement.{statement}
@@ -25,7 +25,7 @@ add-holds-requires c κs = search needs
 
 loop-holds : tie.Need-loop-holds Inv-loop μ-loop
 loop-holds c =
-    (omega arith, ap ListN.length (c .add-holds .ensures (netOf _ [] []) (estimateOf [] _) refl refl) ∙ length-table 1024 _, λ N E G h. far-none N E _ (c .add-holds .ensures N E (G .homesIs) h))
+    (omega arith, ap ListN.length (c .add-holds .ensures (someNet _ [] []) (someEstimate [] _) refl refl) ∙ length-table 1024 _, λ N E G h. far-none N E _ (c .add-holds .ensures N E (G .homesIs) h))
 
 mul-at : tie.Need-mul-at Inv-loop μ-loop
 mul-at c = search needs
@@ -54,7 +54,7 @@ add-evals-requires : tie.Need-add-evals-requires Inv-loop μ-loop
 add-evals-requires c κs =
     let s = c .before .before .before .before .before .before .before .before .before .before in
     let at = c .before .before .before .before .before .before .before .loop in
-    (record { inOrder = s .pre .inOrder; present = s .pre .present (at .i) (omega arith) }, ap ListN.length (c .before .before .add-root .ensures (netOf _ _ (linesView _ _)) (estimateOf _ []) (record { homesIs = refl; boxesIs = refl; linesIs = refl; bindsIs = refl })) ∙ length-table 1024 _)
+    (record { inOrder = s .pre .inOrder; present = s .pre .present (at .i) (omega arith) }, ap ListN.length (c .before .before .add-root .ensures (someNet _ _ (linesView _ _)) (someEstimate _ []) (record { homesIs = refl; boxesIs = refl; linesIs = refl; bindsIs = refl })) ∙ length-table 1024 _)
 
 add-i : tie.Need-add-i Inv-loop μ-loop
 add-i c = search needs
@@ -66,7 +66,7 @@ loop-again : tie.Need-loop-again Inv-loop μ-loop
 loop-again c =
     let s = c .before .before .before .before .before .before .before .before .before .before .before .args in
     let at = c .before .before .before .before .before .before .before .before .loop in
-    (omega arith, ap ListN.length (c .add-evals .ensures (netOf [] _ []) (estimateOf _ []) refl refl) ∙ length-table 1024 _, λ N E G h. far-more N E G (s .roots .now) (at .i) (c .before .single .ensures) (at .inv .2 N E G h) (c .before .before .before .add-root .ensures N E G) (c .add-evals .ensures N E (G .boxesIs) (G .bindsIs)))
+    (omega arith, ap ListN.length (c .add-evals .ensures (someNet [] _ []) (someEstimate _ []) refl refl) ∙ length-table 1024 _, λ N E G h. far-more N E G (s .roots .now) (at .i) (c .before .single .ensures) (at .inv .2 N E G h) (c .before .before .before .add-root .ensures N E G) (c .add-evals .ensures N E (G .boxesIs) (G .bindsIs)))
 
 returns : tie.Need-returns Inv-loop μ-loop
 returns c =
