@@ -1,6 +1,6 @@
 -- Laws of reach and use map as the code computes them.
 -- Assumes nothing.
-use mathlib.Core.Path.{_≡_, refl, sym, ap, ap₂, subst, _∙_}
+use mathlib.Core.Path.{_≡_, refl, sym, ap, subst, _∙_}
 use mathlib.Core.List.{List}
 use Prim.Native.Nat.{ℕ, _+_, _*_, _<_, _^_}
 use lib.Bits.{bitAnd}
@@ -52,12 +52,16 @@ module _ {x : Loc} where
     unfolding reach may
     reach-var bs b e = rw (e, b)
 
+-- an element of a list that is a table
+pub at-table : (n : ℕ) (f : ℕ → ℕ) {l : List ℕ} → l ≡ table n f → (k : ℕ) → k < n → getD l k 0 ≡ f k
+at-table n f e k h = ap (λ (l : List ℕ). getD l k 0) e ∙ getD-table n f k 0 h
+
 -- use maps joined, site by site
 pub join-table : (f g : ℕ → ℕ) {a : List ℕ} → a ≡ table 32 f → table 32 (λ s. join (getD a s 0) (g s)) ≡ table 32 (λ s. join (f s) (g s))
-join-table f g e = same-table 32 _ _ 0 (λ s h. ap (λ (x : ℕ). join x (g s)) (ap (λ (l : List ℕ). getD l s 0) e ∙ getD-table 32 f s 0 h))
+join-table f g e = same-table 32 _ _ 0 (λ s h. ap (λ (x : ℕ). join x (g s)) (at-table 32 f e s h))
 
 pub join-right : (a : List ℕ) (g : ℕ → ℕ) {b : List ℕ} → b ≡ table 32 g → table 32 (λ s. join (getD a s 0) (getD b s 0)) ≡ table 32 (λ s. join (getD a s 0) (g s))
-join-right a g h = same-table 32 _ _ 0 (λ s l. ap (join (getD a s 0)) (ap (λ (x : List ℕ). getD x s 0) h ∙ getD-table 32 g s 0 l))
+join-right a g h = same-table 32 _ _ 0 (λ s l. ap (join (getD a s 0)) (at-table 32 g h s l))
 
 pub join-tables : (f g : ℕ → ℕ) {a b : List ℕ} → a ≡ table 32 f → b ≡ table 32 g → table 32 (λ s. join (getD a s 0) (getD b s 0)) ≡ table 32 (λ s. join (f s) (g s))
 join-tables f g {a} {b} e h = join-right a g h ∙ join-table f g e

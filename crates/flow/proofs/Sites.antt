@@ -2,16 +2,16 @@
 -- Assumes nothing.
 use mathlib.Core.Path.{_≡_, refl, sym, ap, _∙_}
 use mathlib.Core.Bool.{Bool, true, false, not, cond}
-use mathlib.Core.List.{List, [], _∷_}
-use Prim.Native.Nat.{ℕ, zero, suc, _-_, _*_, _/_, _%_, _^_, _<_, _≤_}
+use mathlib.Core.List.{List, []}
+use Prim.Native.Nat.{ℕ, zero, suc, _-_, _^_, _<_, _≤_}
 use native.Mathlib.Omega.{arith}
 use native.Mathlib.Decide.{decLt}
 use native.Mathlib.Nat.{div-one, div-eq-of-lt, mul-mod-left, mul-div-cancel, pow-suc, lt-of-lt-of-le}
 use lib.Bits.{or-zero-l}
 use lib.Dec.{eqb, eqb·zero-suc, eqb·suc-zero, eqb·suc-suc}
-use lib.Pow.{pow-mono, pow-pos}
+use lib.Pow.{pow-mono}
 use borrow.Author.Tests.{not-true}
-use Rattle.sets.specs.Lists.{_∪_, all, any, only, keep, tableFrom, table, below}
+use Rattle.sets.specs.Lists.{_∪_, any, only, keep, tableFrom, table, below}
 use Rattle.sets.specs.Bits.{everyRight, has, mem, sites, join, meet, grant, joins, meets}
 use Rattle.sets.proofs.Lists.{all-at, any-at, none-all}
 use Rattle.sets.proofs.Tables.{below-in, in-below}

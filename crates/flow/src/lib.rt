@@ -1,7 +1,7 @@
 //! Reach and use map: what a process may touch, by the estimate.
 ghost use mathlib.Core.Path.{_≡_};
 ghost use mathlib.Core.Bool.{cond};
-ghost use Prim.Native.Nat.{ℕ, _<_};
+ghost use Prim.Native.Nat.{_<_};
 ghost use lib.ListN.{getD};
 ghost use Rattle.sets.specs.Lists.{table};
 ghost use Rattle.sets.specs.Bits.{acceptBit, mem, sites, join, meet, grant, joins};
@@ -53,7 +53,7 @@ pub fn box_over(boxes: &[u8; 1056], k: u8, places: u32, t: u8) -> u8
     ensures { λ r. ⌜ ((N : Net) → N .boxes ≡ now (boxes .entry) → r ≡ joins (λ l. boxAt N k l t) (sites places)) ⌝ }
 {
     let mut r: u8 = 0;
-    let mut l: u8 = 32;
+    let mut l: u8 = UseMap::SITES as u8;
     while 0 < l {
         l -= 1;
         r = sets::granted(places, l, box_at(boxes, k, l, t)) | r;
@@ -79,7 +79,7 @@ pub fn box_sure(boxes: &[u8; 1056], k: u8, set: u32, t: u8) -> u8
     ensures { λ r. ⌜ ((N : Net) → N .boxes ≡ now (boxes .entry) → r ≡ sure N k set t) ⌝ }
 {
     let mut r: u8 = UseMap::EVERY;
-    let mut l: u8 = 32;
+    let mut l: u8 = UseMap::SITES as u8;
     while 0 < l {
         l -= 1;
         r = narrowed(set, l, box_at(boxes, k, l, t), r);
@@ -135,10 +135,9 @@ impl UseMap {
         ensures { λ r. ⌜ r .rights ≡ table 32 (λ s. grant (mem s set) right) ⌝ }
     {
         let mut r = [0u8; UseMap::SITES];
-        let mut i: u8 = 0;
-        while i < 32 {
-            let at = i as usize;
-            r[at] = sets::granted(set, i, right);
+        let mut i: usize = 0;
+        while i < UseMap::SITES {
+            r[i] = sets::granted(set, i as u8, right);
             i += 1;
         }
         UseMap { rights: r }
@@ -150,10 +149,9 @@ impl UseMap {
         ensures { λ r. ⌜ ((N : Net) → N .boxes ≡ now (boxes .entry) → r .rights ≡ table 32 (λ s. joins (λ l. boxAt N k l s) (sites places))) ⌝ }
     {
         let mut r = [0u8; UseMap::SITES];
-        let mut i: u8 = 0;
-        while i < 32 {
-            let at = i as usize;
-            r[at] = box_over(boxes, k, places, i);
+        let mut i: usize = 0;
+        while i < UseMap::SITES {
+            r[i] = box_over(boxes, k, places, i as u8);
             i += 1;
         }
         UseMap { rights: r }

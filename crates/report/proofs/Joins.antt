@@ -2,10 +2,9 @@
 -- Assumes nothing.
 use mathlib.Core.Path.{_≡_, refl, sym, ap, _∙_}
 use mathlib.Core.Bool.{Bool, true, false}
-use mathlib.Core.List.{List, [], _∷_}
-use Prim.Native.Nat.{ℕ, zero, suc, _+_, _≤_}
+use Prim.Native.Nat.{ℕ, zero, suc, _+_}
 use native.Mathlib.Omega.{arith}
-use lib.Bits.{bitOr, bitAnd, or-comm, or-zero-l, or-zero-r, or-add-and, and-le-l, and-le-r}
+use lib.Bits.{or-comm, or-zero-l, or-add-and, and-le-l, and-le-r}
 use Rattle.sets.specs.Lists.{either, table, tableFrom}
 use Rattle.sets.specs.Bits.{join, joins}
 use Rattle.sets.proofs.Bits.{has-or, same-bits}

@@ -2,17 +2,16 @@
 -- Assumes nothing.
 use mathlib.Core.Path.{_≡_, refl, sym, ap, ap₂, subst, _∙_}
 use mathlib.Core.Bool.{Bool, true, false, false≢true}
-use mathlib.Core.List.{List, [], _∷_}
-use Prim.Native.Nat.{ℕ, zero, suc, _+_, _-_, _*_, _/_, _%_, _<_, _≤_, _^_}
+use mathlib.Core.List.{List, []}
+use Prim.Native.Nat.{ℕ, _+_, _*_, _/_, _%_, _<_}
 use native.Mathlib.Omega.{arith}
 use lib.Bits.{or-zero-r}
-use lib.Dec.{eqb}
 use lib.ListN.{length, getD, set}
 use lib.Seq.{ext-getD}
-use Rattle.sets.specs.Lists.{either, all, table, below}
-use Rattle.sets.specs.Bits.{mem, join, meet, grant, less}
-use Rattle.sets.proofs.Lists.{all-at, all-i}
-use Rattle.sets.proofs.Tables.{getD-table, length-table, same-table, Filled, filled-more, below-in, in-below}
+use Rattle.sets.specs.Lists.{all, table, below}
+use Rattle.sets.specs.Bits.{mem, join, grant, less}
+use Rattle.sets.proofs.Lists.{all-at}
+use Rattle.sets.proofs.Tables.{getD-table, length-table, same-table, Filled, filled-more, below-in}
 use Rattle.klaim.specs.declared.Loc.{Loc}
 use Rattle.klaim.specs.Process.{Line, Tree, node, tree}
 use Rattle.klaim.specs.Net.{Net, Estimate, home, holds}
@@ -22,6 +21,7 @@ use Rattle.tables.specs.declared.Action.{Action}
 use Rattle.tables.specs.declared.Action.the-variants.{Nil, Par, Rep, Out, In, Read, Eval, Accept}
 use Rattle.tables.specs.View.{fieldBytes, linesView, actionLine, LowLoc, Decoded, InForm}
 use Rattle.tables.proofs.Lines.{tree-at, Child, Next as NextOf, next}
+use Rattle.flow.proofs.Laws.{at-table}
 use Rattle.report.specs.declared.Evals.{Evals}
 use Rattle.report.specs.declared.Evals.the-variants.{Nothing, Both, Next, Sends}
 use Rattle.report.specs.Evals.{evalsOf}
@@ -52,11 +52,11 @@ hold-at N E {hs} {es} i e h = rw (e, h) (ap₂ less (ap (λ (k : ℕ). getD es k
     same = omega arith
 
 -- a net and an estimate with these tables
-abbrev pub netOf : List ℕ → List ℕ → List Line → Net
-netOf hs bs ls = record { size = 0; homes = hs; boxes = bs; tuples = []; roots = []; lines = ls }
+abbrev pub someNet : List ℕ → List ℕ → List Line → Net
+someNet hs bs ls = record { size = 0; homes = hs; boxes = bs; tuples = []; roots = []; lines = ls }
 
-abbrev pub estimateOf : List ℕ → List ℕ → Estimate
-estimateOf us es = record { binds = us; stand = []; hold = es }
+abbrev pub someEstimate : List ℕ → List ℕ → Estimate
+someEstimate us es = record { binds = us; stand = []; hold = es }
 
 -- nothing added; one part after another
 pub add-none : (a : List ℕ) → length a ≡ 1024 → a ≡ table 1024 (λ i. join (getD a i 0) 0)
@@ -64,11 +64,11 @@ unfolding join
 add-none a e = ext-getD 0 a _ (e ∙ sym (length-table 1024 (λ i. join (getD a i 0) 0))) (λ k h. sym (getD-table 1024 (λ i. join (getD a i 0) 0) k 0 (omega (arith, e)) ∙ or-zero-r (getD a k 0)))
 
 pub add-two : (a : List ℕ) (f g : ℕ → ℕ) {b : List ℕ} → b ≡ table 1024 (λ i. join (getD a i 0) (f i)) → table 1024 (λ i. join (getD b i 0) (g i)) ≡ table 1024 (λ i. join (getD a i 0) (join (f i) (g i)))
-add-two a f g {b} e = same-table 1024 _ _ 0 (λ i h. ap (λ (x : ℕ). join x (g i)) (ap (λ (l : List ℕ). getD l i 0) e ∙ getD-table 1024 (λ i. join (getD a i 0) (f i)) i 0 h) ∙ join-assoc _ _ _)
+add-two a f g {b} e = same-table 1024 _ _ 0 (λ i h. ap (λ (x : ℕ). join x (g i)) (at-table 1024 (λ i. join (getD a i 0) (f i)) e i h) ∙ join-assoc _ _ _)
 
 -- the use map of a body less the sure rights
 pub less-at : (N : Net) (E : Estimate) (m k : ℕ) (b : Tree) {us ls : List ℕ} → us ≡ table 32 (uses N E m b) → ls ≡ table 32 (λ t. less (getD us t 0) (sure N k m t)) → (t : ℕ) → t < 32 → getD ls t 0 ≡ less (uses N E m b t) (sure N k m t)
-less-at N E m k b {us} {ls} u l t h = ap (λ (x : List ℕ). getD x t 0) l ∙ getD-table 32 (λ t. less (getD us t 0) (sure N k m t)) t 0 h ∙ ap (λ (x : ℕ). less x (sure N k m t)) (ap (λ (x : List ℕ). getD x t 0) u ∙ getD-table 32 (uses N E m b) t 0 h)
+less-at N E m k b {us} {ls} u l t h = at-table 32 (λ t. less (getD us t 0) (sure N k m t)) l t h ∙ ap (λ (x : ℕ). less x (sure N k m t)) (at-table 32 (uses N E m b) u t h)
 
 -- what one eval line adds
 add-eval : (N : Net) (E : Estimate) (a : List ℕ) (m k : ℕ) (b : Tree) {us ls : List ℕ} → us ≡ table 32 (uses N E m b) → ls ≡ table 32 (λ t. less (getD us t 0) (sure N k m t)) → table 1024 (λ i. join (getD a i 0) (grant (mem (i / 32) m) (getD ls (i % 32) 0))) ≡ table 1024 (λ i. join (getD a i 0) (evalAdds N E m k b (i / 32) (i % 32)))

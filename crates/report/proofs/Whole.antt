@@ -2,22 +2,23 @@
 -- Assumes nothing.
 use mathlib.Core.Path.{_≡_, refl, sym, ap, ap₂, _∙_}
 use mathlib.Core.Bool.{Bool, true, false}
-use mathlib.Core.List.{List, []}
+use mathlib.Core.List.{List}
 use Prim.Native.Nat.{ℕ, _+_, _*_, _/_, _%_, _^_, _<_}
 use native.Mathlib.Omega.{arith}
 use lib.Dec.{eqb}
-use lib.ListN.{length, getD, replicate, getD-replicate}
+use lib.ListN.{getD, replicate, getD-replicate}
 use Rattle.sets.specs.Lists.{table, tableFrom}
 use Rattle.sets.specs.Bits.{mem, join, grant, less, joins}
 use Rattle.sets.proofs.Lists.{eqb-eq}
-use Rattle.sets.proofs.Tables.{getD-table, same-table}
+use Rattle.sets.proofs.Tables.{same-table}
 use Rattle.klaim.specs.Process.{Line, tree}
 use Rattle.klaim.specs.Net.{Root, Net, Estimate, home}
 use Rattle.klaim.specs.Analysis.{placeSet, process}
 use Rattle.klaim.specs.Report.{uses, adds, rootAdds, holdAdds, reportAt, report}
 use Rattle.tables.specs.View.{linesView, rootAt, rootsView}
 use Rattle.flow.proofs.Sites.{mem-single}
-use Rattle.report.specs.Given.{rootOf, Given}
+use Rattle.flow.proofs.Laws.{at-table}
+use Rattle.report.specs.Given.{aRoot, Given}
 use Rattle.report.proofs.Joins.{join-assoc, join-comm, join-none, joins-last}
 
 module _ (N : Net) (E : Estimate) where
@@ -30,15 +31,15 @@ module _ (N : Net) (E : Estimate) where
       go false e = refl
 
   -- what an L row adds, from its use map less the home policy of its site
-  pub add-root-row : {hs bs : List ℕ} {n : ℕ} {ls vs : List ℕ} → Given N E hs bs n ls vs → (a : List ℕ) (site q : ℕ) {m : ℕ} {us rs r : List ℕ} → m ≡ 2 ^ site → us ≡ table 32 (uses N E m (tree (linesView n ls) q)) → rs ≡ table 32 (λ t. less (getD us t 0) (home N site t)) → r ≡ table 1024 (λ i. join (getD a i 0) (grant (mem (i / 32) m) (getD rs (i % 32) 0))) → r ≡ table 1024 (λ i. join (getD a i 0) (rootAdds N E (rootOf site q) (i / 32) (i % 32)))
+  pub add-root-row : {hs bs : List ℕ} {n : ℕ} {ls vs : List ℕ} → Given N E hs bs n ls vs → (a : List ℕ) (site q : ℕ) {m : ℕ} {us rs r : List ℕ} → m ≡ 2 ^ site → us ≡ table 32 (uses N E m (tree (linesView n ls) q)) → rs ≡ table 32 (λ t. less (getD us t 0) (home N site t)) → r ≡ table 1024 (λ i. join (getD a i 0) (grant (mem (i / 32) m) (getD rs (i % 32) 0))) → r ≡ table 1024 (λ i. join (getD a i 0) (rootAdds N E (aRoot site q) (i / 32) (i % 32)))
   unfolding rootAdds placeSet
   add-root-row {n = n} {ls} G a site q {m} {us} {rs} e u h x = x ∙ same-table 1024 _ _ 0 (λ i l. ap (join (getD a i 0)) (one (i / 32) (i % 32) (omega arith)))
     where
       used : (t : ℕ) → t < 32 → getD us t 0 ≡ uses N E (2 ^ site) (tree (N .lines) q) t
-      used t l = ap (λ (y : List ℕ). getD y t 0) u ∙ getD-table 32 (uses N E m (tree (linesView n ls) q)) t 0 l ∙ ap₂ (λ (y : ℕ) (z : List Line). uses N E y (tree z q) t) e (sym (G .linesIs))
+      used t l = at-table 32 (uses N E m (tree (linesView n ls) q)) u t l ∙ ap₂ (λ (y : ℕ) (z : List Line). uses N E y (tree z q) t) e (sym (G .linesIs))
 
       left : (t : ℕ) → t < 32 → getD rs t 0 ≡ less (uses N E (2 ^ site) (tree (N .lines) q) t) (home N site t)
-      left t l = ap (λ (y : List ℕ). getD y t 0) h ∙ getD-table 32 (λ t. less (getD us t 0) (home N site t)) t 0 l ∙ ap (λ (y : ℕ). less y (home N site t)) (used t l)
+      left t l = at-table 32 (λ t. less (getD us t 0) (home N site t)) h t l ∙ ap (λ (y : ℕ). less y (home N site t)) (used t l)
 
       one : (s t : ℕ) → t < 32 → grant (mem s m) (getD rs t 0) ≡ grant (eqb site s) (less (uses N E (2 ^ site) (tree (N .lines) q) t) (home N s t))
       one s t l = ap₂ grant (ap (mem s) e ∙ mem-single s site) (left t l) ∙ own-home site s t _
@@ -66,15 +67,15 @@ module _ (N : Net) (E : Estimate) where
   far-at rs i s t = shuffle _ _ _ _ _ ∙ sym (ap₂ (λ (x y : ℕ). join x (join y (holdAdds N E s t))) (joins-last (λ r. rootAdds N E r s t) (rootAt rs) i) (joins-last (λ r. adds N E (placeSet (r .site)) (process N r) s t) (rootAt rs) i))
 
   -- one root more: its use map, then its eval lines
-  pub far-more : {hs bs : List ℕ} {n : ℕ} {ls vs : List ℕ} → Given N E hs bs n ls vs → (rs : List ℕ) (i : ℕ) {m : ℕ} {a b c : List ℕ} → m ≡ 2 ^ getD rs (2 * i) 0 → a ≡ table 1024 (λ k. soFar (rootsView i rs) (k / 32) (k % 32)) → b ≡ table 1024 (λ k. join (getD a k 0) (rootAdds N E (rootOf (getD rs (2 * i) 0) (getD rs (2 * i + 1) 0)) (k / 32) (k % 32))) → c ≡ table 1024 (λ k. join (getD b k 0) (adds N E m (tree (linesView n ls) (getD rs (2 * i + 1) 0)) (k / 32) (k % 32))) → c ≡ table 1024 (λ k. soFar (rootsView (i + 1) rs) (k / 32) (k % 32))
+  pub far-more : {hs bs : List ℕ} {n : ℕ} {ls vs : List ℕ} → Given N E hs bs n ls vs → (rs : List ℕ) (i : ℕ) {m : ℕ} {a b c : List ℕ} → m ≡ 2 ^ getD rs (2 * i) 0 → a ≡ table 1024 (λ k. soFar (rootsView i rs) (k / 32) (k % 32)) → b ≡ table 1024 (λ k. join (getD a k 0) (rootAdds N E (aRoot (getD rs (2 * i) 0) (getD rs (2 * i + 1) 0)) (k / 32) (k % 32))) → c ≡ table 1024 (λ k. join (getD b k 0) (adds N E m (tree (linesView n ls) (getD rs (2 * i + 1) 0)) (k / 32) (k % 32))) → c ≡ table 1024 (λ k. soFar (rootsView (i + 1) rs) (k / 32) (k % 32))
   unfolding rootAt placeSet
   far-more {n = n} {ls} G rs i {m} {a} {b} e x y z = z ∙ same-table 1024 _ _ 0 (λ k l. ap₂ join (second k l) (third k) ∙ far-at rs i (k / 32) (k % 32))
     where
       first : (k : ℕ) → k < 1024 → getD a k 0 ≡ soFar (rootsView i rs) (k / 32) (k % 32)
-      first k l = ap (λ (w : List ℕ). getD w k 0) x ∙ getD-table 1024 (λ k. soFar (rootsView i rs) (k / 32) (k % 32)) k 0 l
+      first k l = at-table 1024 (λ k. soFar (rootsView i rs) (k / 32) (k % 32)) x k l
 
       second : (k : ℕ) → k < 1024 → getD b k 0 ≡ join (soFar (rootsView i rs) (k / 32) (k % 32)) (rootAdds N E (rootAt rs i) (k / 32) (k % 32))
-      second k l = ap (λ (w : List ℕ). getD w k 0) y ∙ getD-table 1024 (λ k. join (getD a k 0) (rootAdds N E (rootAt rs i) (k / 32) (k % 32))) k 0 l ∙ ap (λ (w : ℕ). join w (rootAdds N E (rootAt rs i) (k / 32) (k % 32))) (first k l)
+      second k l = at-table 1024 (λ k. join (getD a k 0) (rootAdds N E (rootAt rs i) (k / 32) (k % 32))) y k l ∙ ap (λ (w : ℕ). join w (rootAdds N E (rootAt rs i) (k / 32) (k % 32))) (first k l)
 
       third : (k : ℕ) → adds N E m (tree (linesView n ls) (getD rs (2 * i + 1) 0)) (k / 32) (k % 32) ≡ adds N E (2 ^ getD rs (2 * i) 0) (tree (N .lines) (getD rs (2 * i + 1) 0)) (k / 32) (k % 32)
       third k = ap₂ (λ (w : ℕ) (u : List Line). adds N E w (tree u (getD rs (2 * i + 1) 0)) (k / 32) (k % 32)) e (sym (G .linesIs))

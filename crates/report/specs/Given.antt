@@ -7,10 +7,10 @@ use Prim.Native.Nat.{ℕ, _+_, _*_, _<_, _≤_}
 use lib.ListN.{getD}
 use Rattle.klaim.specs.Process.{ordered}
 use Rattle.klaim.specs.Net.{Root, Net, Estimate}
-use Rattle.tables.specs.View.{linesView, rootsView}
+use Rattle.tables.specs.View.{linesView}
 
-abbrev pub rootOf : ℕ → ℕ → Root
-rootOf s q = record { site = s; line = q }
+abbrev pub aRoot : ℕ → ℕ → Root
+aRoot s q = record { site = s; line = q }
 
 -- m roots over n lines: each at a site, on a line
 pub record Rooted (n : ℕ) (bs : List ℕ) (m : ℕ) (rs : List ℕ) : Type 0 where

@@ -1,7 +1,7 @@
 //! The report, and whether a process adds nothing to one.
 ghost use mathlib.Core.Path.{_≡_};
 ghost use mathlib.Core.Bool.{true};
-ghost use Prim.Native.Nat.{ℕ, _<_, _/_, _%_};
+ghost use Prim.Native.Nat.{_<_, _/_, _%_};
 ghost use lib.Dec.{eqb};
 ghost use lib.ListN.{length, getD};
 ghost use Rattle.sets.specs.Lists.{table, all, below};
@@ -11,7 +11,7 @@ ghost use Rattle.klaim.specs.Net.{Net, Estimate, home};
 ghost use Rattle.klaim.specs.Report.{sure, evalAdds, adds, addsNothing, rootAdds, holdAdds, report as reportOf};
 ghost use Rattle.tables.specs.View.{linesView, rootsView, InForm};
 ghost use Rattle.report.specs.Evals.{evalsOf, nowhere};
-ghost use Rattle.report.specs.Given.{rootOf, Rooted, Given};
+ghost use Rattle.report.specs.Given.{aRoot, Rooted, Given};
 use flow::UseMap;
 use klaim::Loc;
 use tables::Action;
@@ -30,10 +30,9 @@ fn less_sure(m: UseMap, boxes: &[u8; 1056], k: u8, set: u32) -> UseMap
 {
     let old = m.rights;
     let mut r = [0u8; UseMap::SITES];
-    let mut i: u8 = 0;
-    while i < 32 {
-        let at = i as usize;
-        r[at] = less(old[at], flow::box_sure(boxes, k, set, i));
+    let mut i: usize = 0;
+    while i < UseMap::SITES {
+        r[i] = less(old[i], flow::box_sure(boxes, k, set, i as u8));
         i += 1;
     }
     UseMap { rights: r }
@@ -48,7 +47,7 @@ fn less_home(m: UseMap, homes: &[u8; 1024], site: u8) -> UseMap
     let mut r = [0u8; UseMap::SITES];
     let mut i: usize = 0;
     while i < UseMap::SITES {
-        let at = 32 * (site as usize) + i;
+        let at = UseMap::SITES * (site as usize) + i;
         r[i] = less(old[i], homes[at]);
         i += 1;
     }
@@ -77,9 +76,9 @@ fn add_uses(bytes: &mut [u8; 1024], set: u32, m: UseMap)
 {
     let rights = m.rights;
     let mut i: usize = 0;
-    while i < 1024 {
-        let object = i % 32;
-        let subject = (i / 32) as u8;
+    while i < tables::REPORT {
+        let object = i % UseMap::SITES;
+        let subject = (i / UseMap::SITES) as u8;
         bytes[i] = bytes[i] | sets::granted(set, subject, rights[object]);
         i += 1;
     }
@@ -91,7 +90,7 @@ fn add_holds(bytes: &mut [u8; 1024], hold: &[u8; 1024], homes: &[u8; 1024])
     ensures { λ r. ⌜ ((N : Net) (E : Estimate) → N .homes ≡ now (homes .entry) → E .hold ≡ now (hold .entry) → now (bytes .exit) ≡ table 1024 (λ i. join (getD (now (bytes .entry)) i 0) (holdAdds N E (i / 32) (i % 32)))) ⌝ }
 {
     let mut i: usize = 0;
-    while i < 1024 {
+    while i < tables::REPORT {
         bytes[i] = bytes[i] | less(hold[i], homes[i]);
         i += 1;
     }
@@ -185,14 +184,14 @@ fn add_root(
     requires { ⌜ site < 32 ⌝ }
     requires { ⌜ InForm n (now lines) q ⌝ }
     requires { ⌜ length (now bytes) ≡ 1024 ⌝ }
-    ensures { λ r. ⌜ ((N : Net) (E : Estimate) → Given N E (now (homes .entry)) (now (boxes .entry)) n (now (lines .entry)) (now (binds .entry)) → now (bytes .exit) ≡ table 1024 (λ i. join (getD (now (bytes .entry)) i 0) (rootAdds N E (rootOf site q) (i / 32) (i % 32)))) ⌝ }
+    ensures { λ r. ⌜ ((N : Net) (E : Estimate) → Given N E (now (homes .entry)) (now (boxes .entry)) n (now (lines .entry)) (now (binds .entry)) → now (bytes .exit) ≡ table 1024 (λ i. join (getD (now (bytes .entry)) i 0) (rootAdds N E (aRoot site q) (i / 32) (i % 32)))) ⌝ }
 {
     let places = sets::single(site);
     let uses = flow::use_map(lines, n, boxes, binds, places, q);
     add_uses(bytes, places, less_home(uses, homes, site));
 }
 
-// The report of a net and an estimate given by their tables.
+// The report of a net and an estimate, given by their tables: byte 32 * subject + object.
 pub fn report(
     homes: &[u8; 1024],
     boxes: &[u8; 1056],
@@ -210,8 +209,9 @@ pub fn report(
     add_holds(&mut bytes, hold, homes);
     let mut i: usize = 0;
     while i < nroots {
-        let site = roots[2 * i];
-        let line = roots[2 * i + 1];
+        let at = tables::ROOT * i;
+        let site = roots[at];
+        let line = roots[at + 1];
         add_root(&mut bytes, homes, boxes, lines, nlines, binds, site, line);
         add_evals(
             &mut bytes,

@@ -1,17 +1,17 @@
 -- Laws of the process lines in their table: the line of a number, its process, its children.
 -- Assumes nothing.
 use mathlib.Core.Path.{_≡_, refl, sym, ap, subst, _∙_}
-use mathlib.Core.List.{List}
-use Prim.Native.Nat.{ℕ, _+_, _*_, _%_, _<_, _≤_, min}
+use mathlib.Core.List.{List, [], _∷_, map}
+use Prim.Native.Nat.{ℕ, zero, suc, _+_, _*_, _%_, _<_, _≤_, min}
 use native.Mathlib.Omega.{arith}
 use native.Mathlib.Nat.{add-zero, min-eq-left, min-eq-right}
 use native.Mathlib.Decide.{decLe}
-use lib.ListN.{length, getD, take, drop, length-take}
-use lib.Seq.{take-all}
+use lib.ListN.{length, getD, take, drop, length-take, length-drop}
+use lib.Seq.{take-all, getD-take}
 use Rattle.sets.specs.Lists.{Elem, first, later}
 use Rattle.sets.proofs.Tables.{getD-table, length-table}
 use Rattle.klaim.specs.declared.Loc.{Loc}
-use Rattle.klaim.specs.Process.{Line, Tree, lineAt, children, node, ordered, tree}
+use Rattle.klaim.specs.Process.{Line, lineAt, children, node, tree}
 use Rattle.klaim.specs.Process as Process
 use Rattle.klaim.proofs.Process.{tree-node, child-greater, child-line}
 use Rattle.tables.specs.declared.Action.{Action}
@@ -25,6 +25,23 @@ length-view n bs = length-table n (lineOf bs)
 pub line-view : (n : ℕ) (bs : List ℕ) (q : ℕ) → q < n → lineAt (linesView n bs) q ≡ lineOf bs q
 unfolding linesView
 line-view n bs q h = getD-table n (lineOf bs) q Process.Nil h
+
+-- the four bytes of a line's fields, and the first k of them read one by one
+pub length-fields : (bs : List ℕ) (q : ℕ) → 10 * q + 10 ≤ length bs → length (fieldBytes bs q) ≡ 4
+unfolding fieldBytes
+length-fields bs q h = omega (arith, length-take 4 (drop (10 * q + 6) bs), length-drop (10 * q + 6) bs)
+
+pub length-first : (bs : List ℕ) (q k : ℕ) → 10 * q + 10 ≤ length bs → k ≤ 4 → length (take k (fieldBytes bs q)) ≡ k
+length-first bs q k h l = omega (arith, length-take k (fieldBytes bs q), length-fields bs q h)
+
+getD-map : {A : Type 0} (f : ℕ → A) (d : A) (xs : List ℕ) (j : ℕ) → j < length xs → getD (map f xs) j d ≡ f (getD xs j 0)
+getD-map f d [] j h = absurd (omega arith)
+getD-map f d (x ∷ xs) zero h = refl
+getD-map f d (x ∷ xs) (suc j) h = getD-map f d xs j (omega arith)
+
+-- `locOf` for f in `out`, `slotOf` in `in` and `read`
+pub field-is : {A : Type 0} (f : ℕ → A) (d : A) (bs : List ℕ) (q k j : ℕ) → 10 * q + 10 ≤ length bs → k ≤ 4 → j < k → getD (map f (take k (fieldBytes bs q))) j d ≡ f (getD (fieldBytes bs q) j 0)
+field-is f d bs q k j h l i = getD-map f d (take k (fieldBytes bs q)) j (omega (arith, length-first bs q k h l)) ∙ ap f (getD-take k (fieldBytes bs q) j 0 i)
 
 -- at most four fields are there
 take-four : (n : ℕ) (bs : List ℕ) (q : ℕ) → take (min n 4) (fieldBytes bs q) ≡ take n (fieldBytes bs q)

@@ -1,14 +1,12 @@
 -- What the tables of numbers stand for.
 -- Assumes nothing.
 use mathlib.Core.Path.{_≡_}
-use mathlib.Core.Bool.{Bool, true, false, cond}
-use mathlib.Core.List.{List, [], _∷_, map}
+use mathlib.Core.Bool.{true, cond}
+use mathlib.Core.List.{List, map}
 use Prim.Native.Nat.{ℕ, _+_, _*_, _/_, _%_, _<_, _≤_}
 use lib.Dec.{eqb}
 use lib.ListN.{getD, take, drop}
 use Rattle.sets.specs.Lists.{table}
-use Rattle.klaim.specs.declared.Site.{Site}
-use Rattle.klaim.specs.declared.Var.{Var}
 use Rattle.klaim.specs.declared.Loc.{Loc}
 use Rattle.klaim.specs.declared.Loc.the-variants.{At, Here, Use}
 use Rattle.klaim.specs.declared.Slot.{Slot}

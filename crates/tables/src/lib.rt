@@ -37,6 +37,30 @@ pub const ROOT_BYTES: usize = 128;
 
 pub const LINE_BYTES: usize = 2560;
 
+// Bytes of a tuple, and of a root: its site, then its line.
+pub const TUPLE: usize = 6;
+
+pub const ROOT: usize = 2;
+
+// Bytes of a line, the first its kind; where the line that follows stands, the second branch or body, the sandbox, the target,
+// how many fields, the fields.
+pub const LINE: usize = 10;
+
+pub const NEXT: usize = 1;
+
+pub const SECOND: usize = 2;
+
+pub const SANDBOX: usize = 3;
+
+pub const TARGET: usize = 4;
+
+pub const COUNT: usize = 5;
+
+pub const FIELD: usize = 6;
+
+// A target or field as a byte: its sort times 32, and its number.
+pub const SORT: u8 = 32;
+
 // A net as read. A policy byte stands at 32 * s + t, a sandbox's at 33 * k + t (`self` is t = 32).
 // A tuple takes 6 bytes: how many sites, then the sites; a root 2: its site and its line; a line 10 (see `action_at`).
 pub struct Net {
@@ -100,8 +124,8 @@ pub enum Action {
 pub fn loc_of(code: u8) -> Loc
     ensures { λ r. ⌜ (r ≡ locOf code) × LowLoc r ⌝ }
 {
-    let number = code % 32;
-    match code / 32 % 4 {
+    let number = code % SORT;
+    match code / SORT % 4 {
         0 => Loc::At(Site(number)),
         2 => Loc::Use(Var(number)),
         _ => Loc::Here,
@@ -112,19 +136,25 @@ pub fn loc_of(code: u8) -> Loc
 pub fn slot_of(code: u8) -> Slot
     ensures { λ r. ⌜ (r ≡ slotOf code) × LowSlot r ⌝ }
 {
-    if code / 32 % 4 == 3 {
-        return Slot::Bind(Var(code % 32));
+    if code / SORT % 4 == 3 {
+        return Slot::Bind(Var(code % SORT));
     }
     let value = loc_of(code);
     Slot::Value(value)
 }
 
-fn at_most_four(count: u8) -> u8
+// A line has at most four fields.
+fn clamped(count: u8) -> u8
     ensures { λ r. ⌜ r ≡ min count 4 ⌝ }
 {
-    if count < 4 { count } else { 4 }
+    if count < FIELDS as u8 {
+        count
+    } else {
+        FIELDS as u8
+    }
 }
 
+// An action from its kind and its numbers.
 fn action_of(kind: u8, next: u8, second: u8, sandbox: u8, target: Loc, count: u8) -> Action
     requires { ⌜ LowLoc target × (sandbox < 32) × (count ≤ 4) ⌝ }
     ensures { λ r. ⌜ ((fs : List ℕ) → actionLine r fs ≡ lineBy kind next second sandbox target (take count fs)) × LowAction r ⌝ }
@@ -158,18 +188,19 @@ fn action_of(kind: u8, next: u8, second: u8, sandbox: u8, target: Loc, count: u8
     }
 }
 
-// Line q: its kind, the line that follows, the second branch or body, the sandbox, the target, how many fields, four fields.
+// What line q does.
 pub fn action_at(lines: &[u8; 2560], q: u8) -> Action
     ensures { λ r. ⌜ Decoded (now (lines .entry)) q r ⌝ }
 {
-    let at = 10 * (q as usize);
-    let target = loc_of(lines[at + 4]);
-    let count = at_most_four(lines[at + 5]);
+    let at = LINE * (q as usize);
+    let target = loc_of(lines[at + TARGET]);
+    let count = clamped(lines[at + COUNT]);
+    let sandbox = lines[at + SANDBOX] % (SANDBOXES as u8);
     action_of(
         lines[at],
-        lines[at + 1],
-        lines[at + 2],
-        lines[at + 3] % 32,
+        lines[at + NEXT],
+        lines[at + SECOND],
+        sandbox,
         target,
         count,
     )
@@ -180,6 +211,6 @@ pub fn field_at(lines: &[u8; 2560], q: u8, j: u8) -> u8
     requires { ⌜ j < 4 ⌝ }
     ensures { λ r. ⌜ r ≡ getD (fieldBytes (now (lines .entry)) q) j 0 ⌝ }
 {
-    let at = 10 * (q as usize) + 6;
+    let at = LINE * (q as usize) + FIELD;
     lines[at + (j as usize)]
 }

@@ -14,6 +14,9 @@ Inv-loop boxes k places t r₀ l₀ r l = (l ≤ 32) × ((N : Net) → N .boxes 
 abbrev μ-loop : tie.MeasureT-loop
 μ-loop boxes k places t r₀ l₀ r l = l
 
+cast-l : tie.Need-cast-l Inv-loop μ-loop
+cast-l c = search needs
+
 loop-holds : tie.Need-loop-holds Inv-loop μ-loop
 loop-holds c = (omega arith, λ N e. sym (joins-none _ _))
 
@@ -47,6 +50,7 @@ box-over-spec =
     (tie.spec
     Inv-loop
     μ-loop
+    cast-l
     loop-holds
     sub-l
     box-at-requires

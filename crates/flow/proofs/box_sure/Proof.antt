@@ -15,6 +15,9 @@ Inv-loop boxes k set t r₀ l₀ r l = (l ≤ 32) × ((N : Net) → N .boxes ≡
 abbrev μ-loop : tie.MeasureT-loop
 μ-loop boxes k set t r₀ l₀ r l = l
 
+cast-l : tie.Need-cast-l Inv-loop μ-loop
+cast-l c = search needs
+
 loop-holds : tie.Need-loop-holds Inv-loop μ-loop
 loop-holds c = (omega arith, λ N e. sym (meets-none _ _))
 
@@ -48,6 +51,7 @@ box-sure-spec =
     (tie.spec
     Inv-loop
     μ-loop
+    cast-l
     loop-holds
     sub-l
     box-at-requires

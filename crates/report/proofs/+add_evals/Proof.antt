@@ -6,7 +6,7 @@ use native.Mathlib.Omega.{arith}
 use mathlib.Core.List.{[]}
 use lib.ListN.{length}
 use Rattle.sets.proofs.Tables.{length-table}
-use Rattle.report.proofs.Laws.{netOf, estimateOf, add-none, add-two, below-at, addsBy, report-at, add-sends}
+use Rattle.report.proofs.Laws.{someNet, someEstimate, add-none, add-two, below-at, addsBy, report-at, add-sends}
 use borrow.Author.Needs.{needs}
 use borrow.Fn.Kinds.{In}
 use borrow.Fn.PlainCycle.{Measures, is, falls, and}
@@ -63,7 +63,7 @@ add-evals-add-evals-requires-2 t c κs =
     let h = c .before .before .before .before .before .before .evals-of .ensures in
     let e = c .before .before .before .before .evals .given .1 in
     let k = below-at (s .pre .1 .0) d h e in
-    (omega (arith, k .1 .greater, s .pre .0), (k .1 .form, ap length (c .before .add-evals .ensures (netOf [] _ []) (estimateOf _ []) refl refl) ∙ length-table 1024 _))
+    (omega (arith, k .1 .greater, s .pre .0), (k .1 .form, ap length (c .before .add-evals .ensures (someNet [] _ []) (someEstimate _ []) refl refl) ∙ length-table 1024 _))
 
 add-evals-enum-known-evals-2 : (t : ℕ) → add-evals-lts.Need-enum-known-evals-2 (claims t) (add-evals-at t) add-evals.Post
 add-evals-enum-known-evals-2 t c = search needs
@@ -123,7 +123,7 @@ add-evals-add-evals-requires-5 t c κs =
     let h = c .before .before .before .before .before .before .before .before .before .before .before .evals-of .ensures in
     let e = c .before .before .before .before .before .before .before .before .before .evals3 .given .1 in
     let k = below-at (s .pre .1 .0) d h e in
-    (omega (arith, k .0 .greater, s .pre .0), (k .0 .form, ap length (c .before .add-evals4 .ensures (netOf [] _ []) (estimateOf _ []) refl refl) ∙ length-table 1024 _))
+    (omega (arith, k .0 .greater, s .pre .0), (k .0 .form, ap length (c .before .add-evals4 .ensures (someNet [] _ []) (someEstimate _ []) refl refl) ∙ length-table 1024 _))
 
 add-evals-returns : (t : ℕ) → add-evals-lts.Need-returns (claims t) (add-evals-at t) add-evals.Post
 unfolding addsBy

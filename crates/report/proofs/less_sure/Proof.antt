@@ -19,11 +19,11 @@ abbrev μ-loop : tie.MeasureT-loop
 loop-holds : tie.Need-loop-holds Inv-loop μ-loop
 loop-holds c = (omega arith, omega arith, λ N e. filled-none 0 _ _)
 
-cast-at : tie.Need-cast-at Inv-loop μ-loop
-cast-at c = search needs
-
 array-read-less : tie.Need-array-read-less Inv-loop μ-loop
 array-read-less c = search needs
+
+cast-box-sure : tie.Need-cast-box-sure Inv-loop μ-loop
+cast-box-sure c = search needs
 
 box-sure-requires : tie.Need-box-sure-requires Inv-loop μ-loop
 box-sure-requires c κs = search needs
@@ -57,8 +57,8 @@ less-sure-spec =
     Inv-loop
     μ-loop
     loop-holds
-    cast-at
     array-read-less
+    cast-box-sure
     box-sure-requires
     less-requires
     array-write-r

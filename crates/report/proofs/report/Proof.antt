@@ -8,7 +8,7 @@ use Rattle.sets.proofs.Tables.{length-table}
 use Rattle.klaim.specs.Net.{Net, Estimate}
 use Rattle.tables.specs.View.{linesView, rootsView}
 use Rattle.report.specs.Given.{Given}
-use Rattle.report.proofs.Laws.{netOf, estimateOf}
+use Rattle.report.proofs.Laws.{someNet, someEstimate}
 use Rattle.report.proofs.Whole.{soFar, far-none, far-more, far-all}
 use borrow.Author.Needs.{needs}
 use Rattle.report.proofs.report.Statement.{statement}
@@ -25,16 +25,13 @@ add-holds-requires c κs = search needs
 
 loop-holds : tie.Need-loop-holds Inv-loop μ-loop
 loop-holds c =
-    (omega arith, ap ListN.length (c .add-holds .ensures (netOf _ [] []) (estimateOf [] _) refl refl) ∙ length-table 1024 _, λ N E G h. far-none N E _ (c .add-holds .ensures N E (G .homesIs) h))
+    (omega arith, ap ListN.length (c .add-holds .ensures (someNet _ [] []) (someEstimate [] _) refl refl) ∙ length-table 1024 _, λ N E G h. far-none N E _ (c .add-holds .ensures N E (G .homesIs) h))
 
-mul-site : tie.Need-mul-site Inv-loop μ-loop
-mul-site c = search needs
+mul-at : tie.Need-mul-at Inv-loop μ-loop
+mul-at c = search needs
 
 element-copy-out-site : tie.Need-element-copy-out-site Inv-loop μ-loop
-element-copy-out-site c = omega (arith, c .before .before .before .before .pre .few)
-
-mul-line : tie.Need-mul-line Inv-loop μ-loop
-mul-line c = search needs
+element-copy-out-site c = search needs
 
 add-line : tie.Need-add-line Inv-loop μ-loop
 add-line c = search needs
@@ -57,7 +54,7 @@ add-evals-requires : tie.Need-add-evals-requires Inv-loop μ-loop
 add-evals-requires c κs =
     let s = c .before .before .before .before .before .before .before .before .before .before in
     let at = c .before .before .before .before .before .before .before .loop in
-    (record { inOrder = s .pre .inOrder; present = s .pre .present (at .i) (omega arith) }, ap ListN.length (c .before .before .add-root .ensures (netOf _ _ (linesView _ _)) (estimateOf _ []) (record { homesIs = refl; boxesIs = refl; linesIs = refl; bindsIs = refl })) ∙ length-table 1024 _)
+    (record { inOrder = s .pre .inOrder; present = s .pre .present (at .i) (omega arith) }, ap ListN.length (c .before .before .add-root .ensures (someNet _ _ (linesView _ _)) (someEstimate _ []) (record { homesIs = refl; boxesIs = refl; linesIs = refl; bindsIs = refl })) ∙ length-table 1024 _)
 
 add-i : tie.Need-add-i Inv-loop μ-loop
 add-i c = search needs
@@ -69,7 +66,7 @@ loop-again : tie.Need-loop-again Inv-loop μ-loop
 loop-again c =
     let s = c .before .before .before .before .before .before .before .before .before .before .before .args in
     let at = c .before .before .before .before .before .before .before .before .loop in
-    (omega arith, ap ListN.length (c .add-evals .ensures (netOf [] _ []) (estimateOf _ []) refl refl) ∙ length-table 1024 _, λ N E G h. far-more N E G (s .roots .now) (at .i) (c .before .single .ensures) (at .inv .2 N E G h) (c .before .before .before .add-root .ensures N E G) (c .add-evals .ensures N E (G .boxesIs) (G .bindsIs)))
+    (omega arith, ap ListN.length (c .add-evals .ensures (someNet [] _ []) (someEstimate _ []) refl refl) ∙ length-table 1024 _, λ N E G h. far-more N E G (s .roots .now) (at .i) (c .before .single .ensures) (at .inv .2 N E G h) (c .before .before .before .add-root .ensures N E G) (c .add-evals .ensures N E (G .boxesIs) (G .bindsIs)))
 
 returns : tie.Need-returns Inv-loop μ-loop
 returns c =
@@ -85,9 +82,8 @@ report-spec =
     μ-loop
     add-holds-requires
     loop-holds
-    mul-site
+    mul-at
     element-copy-out-site
-    mul-line
     add-line
     element-copy-out-line
     add-root-requires

@@ -18,8 +18,8 @@ abbrev μ-loop : tie.MeasureT-loop
 loop-holds : tie.Need-loop-holds Inv-loop μ-loop
 loop-holds c = (omega arith, λ N e. filled-none 0 _ _)
 
-cast-at : tie.Need-cast-at Inv-loop μ-loop
-cast-at c = search needs
+cast-box-over : tie.Need-cast-box-over Inv-loop μ-loop
+cast-box-over c = search needs
 
 box-over-requires : tie.Need-box-over-requires Inv-loop μ-loop
 box-over-requires c κs = search needs
@@ -48,7 +48,7 @@ of-box-spec =
     Inv-loop
     μ-loop
     loop-holds
-    cast-at
+    cast-box-over
     box-over-requires
     array-write-r
     add-i

@@ -17,8 +17,8 @@ abbrev μ-loop : tie.MeasureT-loop
 loop-holds : tie.Need-loop-holds Inv-loop μ-loop
 loop-holds c = (omega arith, filled-none 0 _ _)
 
-cast-at : tie.Need-cast-at Inv-loop μ-loop
-cast-at c = search needs
+cast-granted : tie.Need-cast-granted Inv-loop μ-loop
+cast-granted c = search needs
 
 granted-requires : tie.Need-granted-requires Inv-loop μ-loop
 granted-requires c κs = search needs
@@ -47,7 +47,7 @@ over-spec =
     Inv-loop
     μ-loop
     loop-holds
-    cast-at
+    cast-granted
     granted-requires
     array-write-r
     add-i
