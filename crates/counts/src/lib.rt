@@ -41,7 +41,7 @@ pub fn home_count(homes: &[u8; 1024], s: u8) -> u32
     requires { ⌜ (length (now homes) ≡ 1024) × (s < siteLimit) ⌝ }
     ensures { λ r. ⌜ ((N : Net) → N .homes ≡ now (homes .entry) → r ≡ Listing.homeCount N s) ⌝ }
 {
-    let first = 32 * s as usize;
+    let first = SITES * s as usize;
     let mut count = 0;
     let mut t = 0;
     while t < SITES {
@@ -56,7 +56,7 @@ pub fn used_count(homes: &[u8; 1024], usable: [u8; 32], s: u8) -> u32
     requires { ⌜ (length (now homes) ≡ 1024) × (s < siteLimit) ⌝ }
     ensures { λ r. ⌜ ((N : Net) → N .homes ≡ now (homes .entry) → r ≡ sum (λ t. size (meet (home N s t) (getD usable t 0))) (below siteLimit)) ⌝ }
 {
-    let first = 32 * s as usize;
+    let first = SITES * s as usize;
     let mut count = 0;
     let mut t = 0;
     while t < SITES {
