@@ -1,15 +1,14 @@
 -- Laws of counts: the size of a set from its bits, and its bound.
 -- Assumes nothing.
-use mathlib.Core.Path.{_≡_, refl, sym, ap, _∙_}
-use mathlib.Core.Bool.{Bool, true, false}
-use mathlib.Core.List.{List, [], _∷_}
-use Prim.Native.Nat.{ℕ, suc, _+_, _*_, _/_, _%_, _<_, _≤_}
+use mathlib.Core.Path.{_≡_, sym}
+use mathlib.Core.List.{List}
+use Prim.Native.Nat.{ℕ, _+_, _/_, _%_, _<_, _≤_}
 use native.Mathlib.Omega.{arith}
 use native.Mathlib.Decide.{ℕ-discrete}
 use lib.Dec.{eqb}
 use lib.ListN.{length, take, getD}
 use borrow.Author.Tests.{eq-eqb, ne-eqb}
-use Rattle.sets.specs.Lists.{_∪_, only, keep, sum, below}
+use Rattle.sets.specs.Lists.{only, keep, sum, below}
 use Rattle.sets.specs.Bits.{has, size}
 use Rattle.sets.proofs.Lists.{length-union}
 use Rattle.sets.proofs.Runs.{sum-below, sum-take}

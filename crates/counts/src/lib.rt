@@ -1,8 +1,8 @@
 //! The numbers of the March listing: rights reported, rights held, rights used, and the share.
 ghost use mathlib.Core.Path.{_≡_};
-ghost use Prim.Native.Nat.{ℕ, _<_, _≤_};
+ghost use Prim.Native.Nat.{_<_, _≤_};
 ghost use lib.ListN.{length, getD};
-ghost use Rattle.sets.specs.Lists.{sum, below};
+ghost use Rattle.sets.specs.Lists.{sum, below, table};
 ghost use Rattle.sets.specs.Bits.{size, meet};
 ghost use Rattle.klaim.specs.Limits.{siteLimit, reportSize};
 ghost use Rattle.klaim.specs.Net.{Net, home};
@@ -49,6 +49,20 @@ pub fn home_count(homes: &[u8; 1024], s: u8) -> u32
         t += 1;
     }
     count
+}
+
+// The same of every site.
+pub fn home_counts(homes: &[u8; 1024]) -> [u32; 32]
+    requires { ⌜ length (now homes) ≡ 1024 ⌝ }
+    ensures { λ r. ⌜ ((N : Net) → N .homes ≡ now (homes .entry) → r ≡ table siteLimit (Listing.homeCount N)) ⌝ }
+{
+    let mut held = [0u32; 32];
+    let mut s = 0;
+    while s < SITES {
+        held[s] = home_count(homes, s as u8);
+        s += 1;
+    }
+    held
 }
 
 // Those of them that are usable.

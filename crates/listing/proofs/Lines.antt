@@ -1,21 +1,19 @@
 -- Laws of the V rows and the U rows: one more at the end, and how long each is.
 -- Assumes nothing.
-use mathlib.Core.Path.{_≡_, refl, sym, ap, _∙_}
-use mathlib.Core.Bool.{Bool, true, false, not, cond}
+use mathlib.Core.Path.{_≡_, refl, ap, _∙_}
+use mathlib.Core.Bool.{Bool, true, false, not}
 use mathlib.Core.List.{List, [], _∷_}
-use Prim.Native.Nat.{ℕ, suc, _+_, _*_, _/_, _%_, _<_, _≤_}
+use Prim.Native.Nat.{ℕ, _+_, _/_, _%_, _<_, _≤_}
 use native.Mathlib.Omega.{arith}
 use native.Mathlib.Decide.{ℕ-discrete}
 use native.Mathlib.Nat.{div-le-of-le-mul}
 use lib.Dec.{eqb}
 use lib.ListN.{length, getD}
-use borrow.Author.Tests.{eq-eqb, ne-eqb}
+use borrow.Author.Tests.{ne-eqb}
 use Rattle.sets.specs.Lists.{_∪_, only, keep, concat, below, table, tableFrom}
 use Rattle.sets.proofs.Lists.{cond-at}
 use Rattle.sets.proofs.Runs.{concat-below, concat-keep, concat-one}
-use Rattle.klaim.specs.Listing.{numeral, siteName, letters, row, share, rowV, rowsV}
-use Rattle.writer.specs.Wrote.{Wrote}
-use Rattle.writer.proofs.Wrote.{wrote-none, wrote-then, wrote-as}
+use Rattle.klaim.specs.Listing.{siteName, letters, row, share, rowV, rowsV}
 use Rattle.rows.proofs.Rows.{v-short, u-short}
 use Rattle.listing.specs.Lines.{entryV, lineU, linesU}
 

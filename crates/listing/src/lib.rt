@@ -1,16 +1,19 @@
 //! The V rows and the U rows of the March listing.
 ghost use mathlib.Core.Path.{_≡_};
-ghost use Prim.Native.Nat.{ℕ, _+_, _*_, _<_, _≤_};
+ghost use Prim.Native.Nat.{_+_, _*_, _<_, _≤_};
 ghost use lib.ListN.{length};
 ghost use Rattle.klaim.specs.Limits.{siteLimit, reportSize};
 ghost use Rattle.klaim.specs.Listing.{rowsV};
 ghost use Rattle.writer.specs.Wrote.{Wrote};
-ghost use Rattle.listing.specs.Lines.{entryV, lineU, linesU, Counts};
+ghost use Rattle.listing.specs.Lines.{entryV, lineU, linesU, acceptedList, Counts};
 
 // The limits of document 01.
 const SITES: usize = 32;
 
 const REPORT: usize = 1024;
+
+// The longest listing: 14 bytes of `accepted`, 1,024 V rows of 16, 32 U rows of 19.
+pub const LISTING: usize = 17006;
 
 // The V row of byte i of a report, if it has a right.
 fn put_entry(out: &mut [u8], at: usize, i: usize, rights: u8) -> usize
@@ -64,4 +67,21 @@ pub fn put_rows_u<'a>(
         s += 1;
     }
     next
+}
+
+// The listing of an accepted net: the rights reported, the V rows, the U rows.
+pub fn put_listing<'a>(
+    out: &mut [u8],
+    report: &'a [u8; 1024],
+    held: &'a [u32; 32],
+    used: &'a [u32; 32],
+    n: u8,
+) -> usize
+    requires { ⌜ (length (now report) ≡ reportSize) × Counts (now held) (now used) × (n ≤ siteLimit) × (17006 ≤ length (now out)) ⌝ }
+    ensures { λ r. ⌜ Wrote (now (out .entry)) (now (out .exit)) 0 (acceptedList (now (report .entry)) (now (held .entry)) (now (used .entry)) n) r ⌝ }
+{
+    let count = counts::reported(report);
+    let a = rows::put_accepted(out, 0, count);
+    let b = put_rows_v(out, a, report);
+    put_rows_u(out, b, held, used, n)
 }

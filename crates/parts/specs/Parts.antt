@@ -3,10 +3,10 @@
 use mathlib.Core.Bool.{Bool}
 use mathlib.Core.List.{List, [], _∷_}
 use Prim.Native.Nat.{ℕ, _-_}
-use Prim.Native.Char.{Char, code}
+use Prim.Native.Char.{code}
 use lib.Dec.{eqb}
 use lib.ListN.{take, drop, getD}
-use Rattle.sets.specs.Lists.{_&_, either, same}
+use Rattle.sets.specs.Lists.{either, same}
 use Rattle.klaim.specs.Rows.{newline}
 
 -- a row begins at place i

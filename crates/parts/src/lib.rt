@@ -1,7 +1,7 @@
 //! An input in two parts: the net before the first row `.`, the estimate behind it.
 ghost use mathlib.Core.Path.{_≡_};
 ghost use mathlib.Core.Bool.{true};
-ghost use Prim.Native.Nat.{ℕ, _<_, _≤_};
+ghost use Prim.Native.Nat.{_<_, _≤_};
 ghost use lib.ListN.{length, drop};
 ghost use Rattle.sets.specs.Lists.{_&_};
 ghost use Rattle.klaim.specs.Listing as Listing;

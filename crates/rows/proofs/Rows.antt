@@ -1,12 +1,11 @@
 -- How long the rows of a listing are.
 -- Assumes nothing.
-use mathlib.Core.Path.{_≡_, refl, sym, ap, _∙_}
+use mathlib.Core.Path.{_≡_, refl, ap, _∙_}
 use mathlib.Core.List.{List, [], _∷_}
-use Prim.Native.Nat.{ℕ, suc, _+_, _<_, _≤_}
+use Prim.Native.Nat.{ℕ, _+_, _<_, _≤_}
 use Prim.Native.String.{String}
 use native.Mathlib.Omega.{arith}
 use lib.ListN.{length}
-use Rattle.sets.specs.Lists.{_∪_}
 use Rattle.sets.proofs.Lists.{length-union}
 use Rattle.klaim.specs.Rows.{text}
 use Rattle.klaim.specs.Listing.{numeral, siteName, letters, tail, row}

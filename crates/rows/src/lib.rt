@@ -1,6 +1,6 @@
 //! The rows of the March listing, each written from `at` on into a lent buffer.
 ghost use mathlib.Core.List.{[], _∷_};
-ghost use Prim.Native.Nat.{ℕ, _+_, _≤_};
+ghost use Prim.Native.Nat.{_+_, _≤_};
 ghost use lib.ListN.{length};
 ghost use Rattle.klaim.specs.Rows.{text};
 ghost use Rattle.klaim.specs.Listing.{numeral, siteName, letters, row};

@@ -1,11 +1,11 @@
 -- Laws of what a loop gathers in order: a union or a sum with one part more at its end.
 -- Assumes nothing.
-use mathlib.Core.Path.{_≡_, refl, sym, ap, _∙_}
+use mathlib.Core.Path.{_≡_, refl, sym, ap, _∙_, subst}
 use mathlib.Core.Bool.{Bool, true, false}
 use mathlib.Core.List.{List, [], _∷_, _++_}
-use Prim.Native.Nat.{ℕ, zero, suc, _+_, _<_}
+use Prim.Native.Nat.{ℕ, zero, suc, _+_, _*_, _<_, _≤_}
 use native.Mathlib.Omega.{arith}
-use native.Mathlib.Nat.{add-zero}
+use native.Mathlib.Nat.{add-zero, mul-suc}
 use native.Mathlib.Numerals.{add-one}
 use lib.ListN.{length, take, getD}
 use lib.Seq.{take-suc}
@@ -68,3 +68,23 @@ module _ {B : Type 0} (f : ℕ → List B) where
   -- of those numbers that pass
   pub concat-keep : (g : ℕ → Bool) (n : ℕ) → concat f (keep g (below (n + 1))) ≡ concat f (keep g (below n)) ∪ concat f (only (g n) n)
   concat-keep g n = ap (λ (l : List ℕ). concat f (keep g l)) (below-snoc n) ∙ ap (concat f) (keep-snoc g (below n) n) ∙ concat-append f (keep g (below n)) (only (g n) n)
+
+-- functions that agree below n
+pub concat-same : {B : Type 0} (f g : ℕ → List B) (n : ℕ) → ((s : ℕ) → s < n → f s ≡ g s) → concat f (below n) ≡ concat g (below n)
+unfolding concat below table tableFrom
+concat-same f g zero e = refl
+concat-same {B} f g (suc n) e =
+    subst (λ (m : ℕ). concat f (below m) ≡ concat g (below m)) (add-one n)
+    (concat-below f n ∙ ap (λ (l : List B). l ∪ f n) (concat-same f g n (λ s h. e s (omega arith))) ∙ ap (λ (l : List B). concat g (below n) ∪ l) (e n (omega arith)) ∙ sym (concat-below g n))
+
+module _ {A : Type 0} where
+  -- sums of terms that are at most k, and of terms that are no greater
+  pub sum-most : (f : A → ℕ) (k : ℕ) → ((x : A) → f x ≤ k) → (xs : List A) → sum f xs ≤ k * length xs
+  unfolding sum
+  sum-most f k h [] = omega arith
+  sum-most f k h (x ∷ xs) = rw (mul-suc k (length xs)) (omega (arith, h x, sum-most f k h xs))
+
+  pub sum-within : (f g : A → ℕ) → ((x : A) → f x ≤ g x) → (xs : List A) → sum f xs ≤ sum g xs
+  unfolding sum
+  sum-within f g h [] = omega arith
+  sum-within f g h (x ∷ xs) = omega (arith, h x, sum-within f g h xs)

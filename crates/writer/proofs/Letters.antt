@@ -1,17 +1,16 @@
 -- Laws of letters and names: in which parts they are written, and how long they are.
 -- Assumes nothing.
-use mathlib.Core.Path.{_≡_, refl, sym, ap, _∙_}
+use mathlib.Core.Path.{_≡_, refl, ap, _∙_}
 use mathlib.Core.Bool.{Bool, true, false}
 use mathlib.Core.List.{List, [], _∷_}
-use Prim.Native.Nat.{ℕ, suc, _+_, _<_, _≤_, _/_, _%_}
+use Prim.Native.Nat.{ℕ, _+_, _<_, _≤_, _/_, _%_}
 use native.Mathlib.Omega.{arith}
-use lib.Dec.{eqb}
 use borrow.Author.Tests.{eq-eqb, ne-eqb}
 use lib.ListN.{length}
 use Rattle.sets.specs.Lists.{_∪_, only, keep, concat}
-use Rattle.sets.specs.Bits.{everyBit, has}
+use Rattle.sets.specs.Bits.{has}
 use Rattle.sets.proofs.Lists.{length-union}
-use Rattle.klaim.specs.Listing.{letter, letters, numeral, siteName}
+use Rattle.klaim.specs.Listing.{letter, letters, siteName}
 use Rattle.writer.proofs.Numeral.{numeral-short}
 
 -- the letter x, if the set m has the bit r

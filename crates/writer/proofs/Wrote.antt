@@ -2,7 +2,7 @@
 -- Assumes nothing.
 use mathlib.Core.Path.{_≡_, refl, sym, ap, _∙_, subst}
 use mathlib.Core.List.{List, [], _∷_, _++_, append-assoc, append-nil}
-use Prim.Native.Nat.{ℕ, suc, _+_, _-_, _<_, _≤_, min}
+use Prim.Native.Nat.{ℕ, _+_, _-_, _<_, _≤_}
 use native.Mathlib.Omega.{arith}
 use native.Mathlib.Numerals.{add-one}
 use native.Mathlib.Nat.{add-zero}
@@ -63,6 +63,12 @@ wrote-then {a} {b} {c} {at} {next} {last} {xs} {ys} w v = record {
 -- the same write, its bytes said otherwise
 pub wrote-as : {a b : List ℕ} {at next : ℕ} {xs ys : List ℕ} → xs ≡ ys → Wrote a b at xs next → Wrote a b at ys next
 wrote-as {a} {b} {at} {next} e w = subst (λ (l : List ℕ). Wrote a b at l next) e w
+
+-- from the start on: what stands before the place behind
+pub wrote-front : {a b : List ℕ} {next : ℕ} {xs : List ℕ} → Wrote a b 0 xs next → take next b ≡ xs
+wrote-front {a} {b} {next} {xs} w =
+    let e : length xs ≡ next = omega (arith, w .ends) in
+    rw (w .is) (take-at xs (drop (0 + length xs) a) next e)
 
 -- a turn of the loop that copies a text
 pub wrote-more : {a b : List ℕ} {at : ℕ} (t : List ℕ) (i : ℕ) → i < length t → at + length t ≤ length a → Wrote a b at (take i t) (at + i) → Wrote a (set b (at + i) (getD t i 0)) at (take (i + 1) t) (at + (i + 1))

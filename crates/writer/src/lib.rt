@@ -2,12 +2,12 @@
 //! Each function writes from `at` on and answers the place behind what it wrote.
 ghost use mathlib.Core.Path.{_≡_};
 ghost use mathlib.Core.List.{[], _∷_};
-ghost use Prim.Native.Nat.{ℕ, _+_, _<_, _≤_};
+ghost use Prim.Native.Nat.{_+_, _<_, _≤_};
 ghost use lib.ListN.{length};
 ghost use Rattle.sets.specs.Lists.{only};
 ghost use Rattle.sets.specs.Bits.{has};
 ghost use Rattle.klaim.specs.Listing.{numeral, siteName, letters};
-ghost use Rattle.writer.specs.Wrote.{Wrote, field};
+ghost use Rattle.writer.specs.Wrote.{Wrote};
 
 // One byte.
 pub fn put_byte(out: &mut [u8], at: usize, byte: u8) -> usize

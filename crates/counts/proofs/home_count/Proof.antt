@@ -3,11 +3,11 @@ use mathlib.Core.Path.{_≡_, refl, sym, ap, _∙_}
 use mathlib.Core.List.{List}
 use Prim.Native.Nat.{ℕ, _+_, _*_, _-_, _≤_}
 use native.Mathlib.Omega.{arith}
-use lib.ListN.{length, getD}
+use lib.ListN.{getD}
 use denote.Ref.{now}
 use Rattle.sets.specs.Lists.{sum, below, table, tableFrom}
 use Rattle.sets.specs.Bits.{size}
-use Rattle.klaim.specs.Net.{Net, home}
+use Rattle.klaim.specs.Net.{home}
 use Rattle.klaim.specs.Listing.{homeCount}
 use Rattle.counts.proofs.Size.{counted-most, counted}
 use Rattle.counts.proofs.home_count.Statement.{statement}

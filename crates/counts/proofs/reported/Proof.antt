@@ -1,12 +1,11 @@
 use borrow.Author.Needs.{needs}
-use mathlib.Core.Path.{_≡_, refl, sym, ap, _∙_}
-use mathlib.Core.List.{List}
-use Prim.Native.Nat.{ℕ, _+_, _*_, _-_, _≤_}
+use mathlib.Core.Path.{_≡_, ap, _∙_}
+use Prim.Native.Nat.{_*_, _-_, _≤_}
 use native.Mathlib.Omega.{arith}
-use lib.ListN.{length, take}
+use lib.ListN.{take}
 use lib.Seq.{take-all}
 use denote.Ref.{now}
-use Rattle.sets.specs.Lists.{sum, below}
+use Rattle.sets.specs.Lists.{sum}
 use Rattle.sets.specs.Bits.{size}
 use Rattle.klaim.specs.Listing.{reported}
 use Rattle.counts.proofs.Size.{counted-most, counted-list}

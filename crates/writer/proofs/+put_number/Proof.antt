@@ -3,7 +3,7 @@ use Prim.Native.Nat.{ℕ, _<_, _/_}
 use borrow.Fn.Kinds.{In}
 use borrow.Fn.PlainCycle.{Measures, is, falls, and}
 use mathlib.Core.Path.{sym, ap, _∙_}
-use mathlib.Core.List.{List, [], _∷_}
+use mathlib.Core.List.{[], _∷_}
 use native.Mathlib.Omega.{arith}
 use lib.ListN.{length}
 use Rattle.sets.specs.Lists.{_∪_}
