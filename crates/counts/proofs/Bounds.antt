@@ -1,0 +1,56 @@
+-- Bounds of the counts: how many rights are reported, held and used at most.
+-- Assumes nothing.
+use mathlib.Core.Path.{_≡_}
+use mathlib.Core.Bool.{Bool, true, false}
+use mathlib.Core.List.{List}
+use Prim.Native.Nat.{ℕ, _+_, _^_, _≤_}
+use native.Mathlib.Omega.{arith}
+use lib.ListN.{length}
+use Rattle.sets.specs.Lists.{_&_, only, keep, below}
+use Rattle.sets.specs.Bits.{has, meet, size}
+use Rattle.sets.proofs.Lists.{length-union}
+use Rattle.sets.proofs.Tables.{length-table}
+use Rattle.sets.proofs.Bits.{has-and}
+use Rattle.sets.proofs.Runs.{sum-most, sum-within}
+use Rattle.klaim.specs.Net.{Net, home}
+use Rattle.klaim.specs.Reader.{World}
+use Rattle.klaim.specs.Listing.{reported, homeCount, usable, usedCount}
+use Rattle.counts.proofs.Size.{size-most}
+
+-- no more rights in common than one set has
+abbrev one : ℕ → ℕ → ℕ
+one m r = length (only (has m r) r)
+
+parts : (m : ℕ) → size m ≡ one m 1 + (one m 2 + (one m 4 + (one m 8 + one m 16)))
+unfolding size keep
+parts m = simp length-union (omega arith)
+
+fewer : (x y : Bool) (r : ℕ) → length (only (x & y) r) ≤ length (only x r)
+unfolding _&_ only
+fewer true true r = omega arith
+fewer true false r = omega arith
+fewer false y r = omega arith
+
+less : (a b n : ℕ) → one (meet a b) (2 ^ n) ≤ one a (2 ^ n)
+less a b n = rw (has-and a b n) (fewer (has a (2 ^ n)) (has b (2 ^ n)) (2 ^ n))
+
+pub size-meet : (a b : ℕ) → size (meet a b) ≤ size a
+size-meet a b = omega (arith, parts a, parts (meet a b), less a b 0, less a b 1, less a b 2, less a b 3, less a b 4)
+
+length-below : (n : ℕ) → length (below n) ≡ n
+unfolding below
+length-below n = length-table n (λ i. i)
+
+-- at most 5 rights towards each of 1,024 pairs, 32 sites
+pub reported-most : (bytes : List ℕ) → length bytes ≡ 1024 → reported bytes ≤ 5120
+unfolding reported
+reported-most bytes e = omega (arith, sum-most size 5 size-most bytes)
+
+pub held-most : (N : Net) (s : ℕ) → homeCount N s ≤ 160
+unfolding homeCount
+held-most N s = omega (arith, sum-most (λ t. size (home N s t)) 5 (λ t. size-most (home N s t)) (below 32), length-below 32)
+
+-- no more used than held
+pub used-most : (w : World) (s : ℕ) → usedCount w s ≤ homeCount (w .net) s
+unfolding usedCount homeCount
+used-most w s = sum-within (λ t. size (meet (home (w .net) s t) (usable w s t))) (λ t. size (home (w .net) s t)) (λ t. size-meet (home (w .net) s t) (usable w s t)) (below 32)

@@ -1,0 +1,52 @@
+-- How long the rows of a listing are.
+-- Assumes nothing.
+use mathlib.Core.Path.{_≡_, refl, ap, _∙_}
+use mathlib.Core.List.{List, [], _∷_}
+use Prim.Native.Nat.{ℕ, _+_, _<_, _≤_}
+use Prim.Native.String.{String}
+use native.Mathlib.Omega.{arith}
+use lib.ListN.{length}
+use Rattle.sets.proofs.Lists.{length-union}
+use Rattle.klaim.specs.Rows.{text}
+use Rattle.klaim.specs.Listing.{numeral, siteName, letters, tail, row}
+use Rattle.writer.proofs.Numeral.{numeral-short}
+use Rattle.writer.proofs.Letters.{letters-short, site-short}
+
+-- the bytes of fields, each behind its comma, and of the newline
+abbrev pub width : List (List ℕ) → ℕ
+width [] = 1
+width (f ∷ fs) = 1 + length f + width fs
+
+length-tail : (fs : List (List ℕ)) → length (tail fs) ≡ width fs
+unfolding tail
+length-tail [] = refl
+length-tail (f ∷ fs) = omega (arith, length-union f (tail fs), length-tail fs)
+
+pub length-row : (w : String) (fs : List (List ℕ)) → length (row w fs) ≡ length (text w) + width fs
+unfolding row
+length-row w fs = length-union (text w) (tail fs) ∙ ap (λ (n : ℕ). length (text w) + n) (length-tail fs)
+
+-- the longest of each row
+pub accepted-short : (n : ℕ) → n < 10000 → length (row "accepted" (numeral n ∷ [])) ≤ 14
+unfolding text
+accepted-short n h = omega (arith, length-row "accepted" (numeral n ∷ []), numeral-short 3 n h)
+
+pub refused-short : (n r : ℕ) → n < 100 → r < 100000 → length (row "refused" (numeral n ∷ numeral r ∷ [])) ≤ 17
+unfolding text
+refused-short n r h k = omega (arith, length-row "refused" (numeral n ∷ numeral r ∷ []), numeral-short 1 n h, numeral-short 4 r k)
+
+pub broken-tuple-short : (n : ℕ) → n < 1000 → length (row "broken" (text "T" ∷ numeral n ∷ [])) ≤ 13
+unfolding text
+broken-tuple-short n h = omega (arith, length-row "broken" (text "T" ∷ numeral n ∷ []), numeral-short 2 n h)
+
+pub broken-line-short : (n : ℕ) → n < 1000 → length (row "broken" (text "Q" ∷ numeral n ∷ [])) ≤ 13
+unfolding text
+broken-line-short n h = omega (arith, length-row "broken" (text "Q" ∷ numeral n ∷ []), numeral-short 2 n h)
+
+pub v-short : (s t m : ℕ) → s < 32 → t < 32 → length (row "V" (siteName s ∷ siteName t ∷ letters m ∷ [])) ≤ 16
+unfolding text
+v-short s t m h k = omega (arith, length-row "V" (siteName s ∷ siteName t ∷ letters m ∷ []), site-short s h, site-short t k, letters-short m)
+
+pub u-short : (s p q r : ℕ) → s < 32 → p < 1000 → q < 1000 → r < 10000 → length (row "U" (siteName s ∷ numeral p ∷ numeral q ∷ numeral r ∷ [])) ≤ 19
+unfolding text
+u-short s p q r h i j k = omega (arith, length-row "U" (siteName s ∷ numeral p ∷ numeral q ∷ numeral r ∷ []), site-short s h, numeral-short 2 p i, numeral-short 2 q j, numeral-short 3 r k)
