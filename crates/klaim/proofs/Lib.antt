@@ -8,3 +8,4 @@ pub mod Safety
 pub mod Demand3
 pub mod Ready
 pub mod Choices
+pub mod Above
