@@ -1,0 +1,97 @@
+-- What the answers of the field readers stand for.
+-- Assumes nothing.
+use mathlib.Core.Path.{_≡_}
+use mathlib.Core.Bool.{Bool, true, false, not, cond}
+use mathlib.Core.List.{List, [], _∷_}
+use mathlib.Core.Option.{Option, none, some}
+use Prim.Native.Nat.{ℕ, suc}
+use Prim.Native.Char.{Char, code}
+use Prim.Native.String.{String}
+use lib.Dec.{eqb, leb, ltb}
+use lib.ListN.{length, getD}
+use Rattle.sets.specs.Lists.{_&_, either, all, same}
+use Rattle.sets.specs.Bits.{everyBit}
+use Rattle.klaim.specs.declared.Site.{Site}
+use Rattle.klaim.specs.declared.Var.{Var}
+use Rattle.klaim.specs.declared.Loc.{Loc}
+use Rattle.klaim.specs.declared.Loc.the-variants.{At, Here, Use}
+use Rattle.klaim.specs.declared.Slot.{Slot}
+use Rattle.klaim.specs.declared.Slot.the-variants.{Value, Bind}
+use Rattle.klaim.specs.Rows.{text, digit, decimal, locField, slotField, towards, given, otherwise, _>>=_}
+use Rattle.text.specs.declared.Name.{Name}
+
+-- the scalar that stands for no number
+abbrev pub noNumber : ℕ
+noNumber = 1000
+
+unfoldable pub numberOf : ℕ → Option ℕ
+numberOf n = given (ltb n noNumber) (some n)
+
+-- the length and the first digit of a number
+unfoldable pub shapeOf : List ℕ → Bool
+shapeOf f = leb 1 (length f) & leb (length f) 3 & either (eqb (length f) 1) (not (eqb (getD f 0 0) (code "0")))
+
+-- what the digits of a number say
+unfoldable pub digitsField : List ℕ → Option ℕ
+digitsField f = given (all digit f) (some (decimal 0 f))
+
+-- rights; 0 stands for none
+unfoldable pub rightsOf : ℕ → Option ℕ
+rightsOf r = given (ltb 0 r) (some r)
+
+-- no right, and each right
+abbrev pub bits : List ℕ
+bits = 0 ∷ everyBit
+
+-- the variable of `!u`
+unfoldable pub binderOf : ℕ → Option Slot
+binderOf n = numberOf n >>= λ u. some (Bind (record { 0 = u }))
+
+-- kinds of names: 1 a site, 2 `self`, 3 a variable, 4 `!u`; any other stands for none
+abbrev pub nameAs : ℕ → ℕ → Name
+nameAs kind number = record { kind = kind; number = number }
+
+unfoldable pub locOf : Name → Option Loc
+locOf m =
+    cond (eqb (m .kind) 1) (some (At (record { 0 = m .number })))
+    (cond (eqb (m .kind) 2) (some Here)
+    (cond (eqb (m .kind) 3) (some (Use (record { 0 = m .number })))
+    none))
+
+unfoldable pub slotOf : Name → Option Slot
+slotOf m = cond (eqb (m .kind) 4) (some (Bind (record { 0 = m .number }))) (locOf m >>= λ x. some (Value x))
+
+-- the t of a D row
+unfoldable pub towardsOf : Name → Option (List ℕ)
+towardsOf m = cond (eqb (m .kind) 1) (some (m .number ∷ [])) (cond (eqb (m .kind) 2) (some []) none)
+
+-- a name by the readings of its field
+unfoldable pub pickName : ℕ → ℕ → Bool → ℕ → Name
+pickName binder site here variable =
+    cond (ltb binder noNumber) (nameAs 4 binder)
+    (cond (ltb site noNumber) (nameAs 1 site)
+    (cond here (nameAs 2 0)
+    (cond (ltb variable noNumber) (nameAs 3 variable)
+    (nameAs 0 0))))
+
+-- what a field names, as a field of a template, as a field of `out` or a target, and in a D row
+pub record Named (f : List ℕ) (m : Name) : Type 0 where
+  pub slot : slotOf m ≡ slotField f
+  pub loc : locOf m ≡ locField f
+  pub toward : towardsOf m ≡ towards f
+
+-- the place of a word in a list, counted from n; 0 where it does not stand there
+unfoldable pub placeIn : ℕ → List String → List ℕ → ℕ
+placeIn n [] f = 0
+placeIn n (w ∷ ws) f = cond (same f (text w)) n (placeIn (suc n) ws f)
+
+-- the group of a letter
+unfoldable pub letterOf : List ℕ → ℕ
+letterOf f = placeIn 1 ("N" ∷ "R" ∷ "D" ∷ "T" ∷ "L" ∷ "Q" ∷ "B" ∷ "A" ∷ "E" ∷ []) f
+
+-- the kinds of process lines
+abbrev pub words : List String
+words = "nil" ∷ "par" ∷ "rep" ∷ "out" ∷ "in" ∷ "read" ∷ "eval" ∷ "accept" ∷ []
+
+unfoldable pub wordOf : List ℕ → ℕ
+wordOf f = placeIn 1 words f
