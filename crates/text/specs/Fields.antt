@@ -9,7 +9,7 @@ use Prim.Native.Char.{Char, code}
 use Prim.Native.String.{String}
 use lib.Dec.{eqb, leb, ltb}
 use lib.ListN.{length, getD}
-use Rattle.sets.specs.Lists.{_&_, either, all, same}
+use Rattle.sets.specs.Lists.{_&_, either, all, only, same}
 use Rattle.sets.specs.Bits.{everyBit}
 use Rattle.klaim.specs.declared.Site.{Site}
 use Rattle.klaim.specs.declared.Var.{Var}
@@ -17,7 +17,7 @@ use Rattle.klaim.specs.declared.Loc.{Loc}
 use Rattle.klaim.specs.declared.Loc.the-variants.{At, Here, Use}
 use Rattle.klaim.specs.declared.Slot.{Slot}
 use Rattle.klaim.specs.declared.Slot.the-variants.{Value, Bind}
-use Rattle.klaim.specs.Rows.{text, digit, decimal, locField, slotField, towards, given, otherwise, _>>=_}
+use Rattle.klaim.specs.Rows.{text, digit, decimal, siteField, locField, slotField, towards, given, otherwise, _>>=_}
 use Rattle.text.specs.declared.Name.{Name}
 
 -- the scalar that stands for no number
@@ -47,23 +47,23 @@ bits = 0 ∷ everyBit
 unfoldable pub binderOf : ℕ → Option Slot
 binderOf n = numberOf n >>= λ u. some (Bind (record { 0 = u }))
 
--- kinds of names: 1 a site, 2 `self`, 3 a variable, 4 `!u`; any other stands for none
+-- kinds of names: 1 a site, 2 `self`, 3 a variable, 4 `!u`; 0 stands for none
 abbrev pub nameAs : ℕ → ℕ → Name
 nameAs kind number = record { kind = kind; number = number }
 
-unfoldable pub locOf : Name → Option Loc
-locOf m =
-    cond (eqb (m .kind) 1) (some (At (record { 0 = m .number })))
-    (cond (eqb (m .kind) 2) (some Here)
-    (cond (eqb (m .kind) 3) (some (Use (record { 0 = m .number })))
-    none))
+-- a name of the kinds from 1 to k: 1 sites, 2 what a D row may name, 3 targets and fields of `out`, 4 fields of `in` and `read`
+unfoldable pub upTo : ℕ → Name → Bool
+upTo k m = leb 1 (m .kind) & leb (m .kind) k
 
-unfoldable pub slotOf : Name → Option Slot
-slotOf m = cond (eqb (m .kind) 4) (some (Bind (record { 0 = m .number }))) (locOf m >>= λ x. some (Value x))
+unfoldable pub loc : Name → Loc
+loc m = cond (eqb (m .kind) 1) (At (record { 0 = m .number })) (cond (eqb (m .kind) 2) Here (Use (record { 0 = m .number })))
 
--- the t of a D row
-unfoldable pub towardsOf : Name → Option (List ℕ)
-towardsOf m = cond (eqb (m .kind) 1) (some (m .number ∷ [])) (cond (eqb (m .kind) 2) (some []) none)
+unfoldable pub slot : Name → Slot
+slot m = cond (eqb (m .kind) 4) (Bind (record { 0 = m .number })) (Value (loc m))
+
+-- the sites of the t of a D row
+unfoldable pub sitesTo : Name → List ℕ
+sitesTo m = only (eqb (m .kind) 1) (m .number)
 
 -- a name by the readings of its field
 unfoldable pub pickName : ℕ → ℕ → Bool → ℕ → Name
@@ -74,11 +74,12 @@ pickName binder site here variable =
     (cond (ltb variable noNumber) (nameAs 3 variable)
     (nameAs 0 0))))
 
--- what a field names, as a field of a template, as a field of `out` or a target, and in a D row
+-- what a field names, by each use of a name
 pub record Named (f : List ℕ) (m : Name) : Type 0 where
-  pub slot : slotOf m ≡ slotField f
-  pub loc : locOf m ≡ locField f
-  pub toward : towardsOf m ≡ towards f
+  pub site : given (upTo 1 m) (some (m .number)) ≡ siteField f
+  pub toward : given (upTo 2 m) (some (sitesTo m)) ≡ towards f
+  pub loc-is : given (upTo 3 m) (some (loc m)) ≡ locField f
+  pub slot-is : given (upTo 4 m) (some (slot m)) ≡ slotField f
 
 -- the place of a word in a list, counted from n; 0 where it does not stand there
 unfoldable pub placeIn : ℕ → List String → List ℕ → ℕ
