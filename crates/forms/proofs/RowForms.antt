@@ -1,31 +1,31 @@
 -- Laws of the groups of rows: each form by the tests that the code makes.
 -- Assumes nothing.
-use mathlib.Core.Path.{_≡_, refl, sym, ap, _∙_}
-use mathlib.Core.Bool.{Bool, true, false}
+use mathlib.Core.Path.{_≡_, refl, ap, _∙_}
+use mathlib.Core.Logic.{_⊎_, inl, inr, ⊎-elim}
+use mathlib.Core.Bool.{true, false}
 use mathlib.Core.List.{List, [], _∷_, map}
 use mathlib.Core.Option.{Option, none, some}
-use Prim.Native.Nat.{ℕ, suc, _+_, _≤_}
-use Prim.Native.String.{String}
+use Prim.Native.Nat.{ℕ, _+_, _≤_}
 use native.Mathlib.Omega.{arith}
 use lib.Dec.{eqb, ltb}
 use lib.ListN.{length, getD, drop}
-use Rattle.sets.specs.Lists.{_&_, all, same, _∪_}
-use Rattle.klaim.specs.Process.{Line, Nil}
-use Rattle.klaim.specs.Rows.{Row, at, text, given, otherwise, _>>=_, number, siteField, varField, rightsField, towards, lineForm, groupN, groupR, groupD, groupT, groupL, groupQ, groupB, groupA, groupE, rowN, rowPair, rowD, rowTuple, rowL, rowB, rowQ, rowLine, rowForm}
+use Rattle.sets.specs.Lists.{_&_, either, all, same, _∪_}
+use Rattle.sets.proofs.Lists.{or-case, eqb-eq}
+use Rattle.klaim.specs.Process.{Nil}
+use Rattle.klaim.specs.Rows.{Row, at, text, given, number, siteField, varField, rightsField, lineForm, groupN, groupR, groupD, groupT, groupL, groupB, groupA, groupE, rowN, rowPair, rowD, rowTuple, rowL, rowB, rowQ, rowLine, rowForm}
 use Rattle.text.specs.declared.Name.{Name}
-use Rattle.text.specs.Fields.{noNumber, numberOf, rightsOf, upTo, sitesTo, Named, letterOf}
+use Rattle.text.specs.Fields.{numberOf, rightsOf, upTo, sitesTo, Named, letters, letterOf}
 use Rattle.text.proofs.Names.{choose, distinct, otherwise-none, chosen, chosen-none, placed-low}
 use Rattle.lines.specs.declared.Four.{Four}
 use Rattle.lines.specs.declared.LineData.{LineData}
-use Rattle.lines.specs.Lines.{names, fitAll, FourAt, lineOf, lineView}
+use Rattle.lines.specs.Lines.{names, fitAll, FourAt, lineOf, lineView, lineShape}
+use Rattle.forms.specs.declared.RowData.{RowData}
+use Rattle.forms.specs.Forms.{pairGroup, tupleGroup, plainShape, plainGood, rowGood}
 use Rattle.lines.proofs.Templates.{fields-are}
-use Rattle.lines.proofs.LineKinds.{given-then}
+use Rattle.lines.proofs.LineKinds.{given-then, below}
 
 abbrev rowAs : ℕ → ℕ → List ℕ → List ℕ → List ℕ → List ℕ → ℕ → Row
 rowAs group size boxes vars sites lines rights = record { group = group; size = size; boxes = boxes; vars = vars; sites = sites; lines = lines; rights = rights; process = Nil }
-
-abbrev below : ℕ → Bool
-below n = ltb n noNumber
 
 abbrev numbers : Four → List ℕ
 numbers f = map (λ (m : Name). m .number) (names f)
@@ -66,9 +66,6 @@ unfolding rowQ numberOf lineView
 q-by fs q l p e = rw (← p, ← e) (simp given-then)
 
 -- the form of a row, by the group of its letter
-abbrev letters : List String
-letters = "N" ∷ "R" ∷ "D" ∷ "T" ∷ "L" ∷ "Q" ∷ "B" ∷ "A" ∷ "E" ∷ []
-
 abbrev groups : List (List ℕ) → List (Option Row)
 groups fs = rowN fs ∷ rowPair groupR fs ∷ rowD fs ∷ rowTuple groupT fs ∷ rowL fs ∷ rowQ fs ∷ rowB fs ∷ rowTuple groupA fs ∷ rowPair groupE fs ∷ []
 
@@ -87,3 +84,42 @@ row-of-none fs h = row-choice fs ∙ chosen-none 0 letters (groups fs) (at fs 0)
 pub letter-low : (f : List ℕ) → letterOf f ≤ 9
 unfolding letterOf
 letter-low f = omega (arith, placed-low 0 letters f)
+
+-- the groups of pairs and of tuples
+pair-case : (g : ℕ) → pairGroup g ≡ true → (g ≡ groupR) ⊎ (g ≡ groupE)
+unfolding pairGroup
+pair-case g h = go (or-case _ _ h)
+  where
+    go : (eqb g groupR ≡ true) ⊎ (eqb g groupE ≡ true) → (g ≡ groupR) ⊎ (g ≡ groupE)
+    go (inl e) = inl (eqb-eq e)
+    go (inr e) = inr (eqb-eq e)
+
+tuple-case : (g : ℕ) → tupleGroup g ≡ true → (g ≡ groupT) ⊎ (g ≡ groupA)
+unfolding tupleGroup
+tuple-case g h = go (or-case _ _ h)
+  where
+    go : (eqb g groupT ≡ true) ⊎ (eqb g groupA ≡ true) → (g ≡ groupT) ⊎ (g ≡ groupA)
+    go (inl e) = inl (eqb-eq e)
+    go (inr e) = inr (eqb-eq e)
+
+pub pair-some : (g : ℕ) → pairGroup g ≡ true → ltb 0 g ≡ true
+pair-some g h = ⊎-elim (λ e. rw e) (λ e. rw e) (pair-case g h)
+
+pub tuple-some : (g : ℕ) → tupleGroup g ≡ true → ltb 0 g ≡ true
+tuple-some g h = ⊎-elim (λ e. rw e) (λ e. rw e) (tuple-case g h)
+
+pub pair-good : (r : RowData) → pairGroup (r .group) ≡ true → r .line .kind ≡ 0 → eqb (r .line .fields .count) 1 & plainShape true false false false 1 1 r ≡ true → rowGood r ≡ true
+unfolding rowGood plainGood plainShape lineShape pairGroup tupleGroup either _&_
+pair-good r g k h = go (pair-case (r .group) g)
+  where
+    go : (r .group ≡ groupR) ⊎ (r .group ≡ groupE) → rowGood r ≡ true
+    go (inl e) = rw (e, k) h
+    go (inr e) = rw (e, k) h
+
+pub tuple-good : (r : RowData) → tupleGroup (r .group) ≡ true → r .line .kind ≡ 0 → plainShape false false false false 1 1 r ≡ true → rowGood r ≡ true
+unfolding rowGood plainGood plainShape lineShape pairGroup tupleGroup either _&_
+tuple-good r g k h = go (tuple-case (r .group) g)
+  where
+    go : (r .group ≡ groupT) ⊎ (r .group ≡ groupA) → rowGood r ≡ true
+    go (inl e) = rw (e, k) h
+    go (inr e) = rw (e, k) h

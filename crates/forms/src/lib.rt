@@ -1,19 +1,29 @@
 //! The form of a row.
 ghost use mathlib.Core.Path.{_≡_};
+ghost use mathlib.Core.Bool.{true};
 ghost use mathlib.Core.List.{List};
-ghost use Prim.Native.Nat.{ℕ, _<_};
+ghost use Prim.Native.Nat.{ℕ};
 ghost use lib.ListN.{length, drop};
 ghost use Rattle.klaim.specs.Rows.{split, comma, at, number, siteField, varField, rightsField, lineForm, rowN, rowPair, rowD, rowTuple, rowL, rowB, rowQ, rowForm, rowOf};
 ghost use Rattle.text.specs.Pieces.{Cut};
 ghost use Rattle.text.specs.Fields.{numberOf, rightsOf, Named, letterOf};
-ghost use Rattle.lines.specs.Lines.{FourAt, lineView};
-ghost use Rattle.forms.specs.Forms.{rowView};
+ghost use Rattle.lines.specs.Lines.{FourAt, lineView, lineGood};
+ghost use Rattle.forms.specs.Forms.{rowView, rowGood, pairGroup, tupleGroup};
 use lines::Four;
 use lines::LineData;
 use lines::NO_FIELDS;
 use lines::NO_LINE;
 use lines::NO_NAME;
 use text::EDGES;
+use text::GROUP_A;
+use text::GROUP_B;
+use text::GROUP_D;
+use text::GROUP_E;
+use text::GROUP_L;
+use text::GROUP_N;
+use text::GROUP_Q;
+use text::GROUP_R;
+use text::GROUP_T;
 use text::NO_NUMBER;
 use text::Name;
 use text::SITE;
@@ -46,6 +56,7 @@ const PLACES: u8 = 2;
 
 fn form_n(m: usize, n: u16) -> RowData
     ensures { λ r. ⌜ ((fs : List (List ℕ)) → m ≡ length fs → numberOf n ≡ number (at fs 1) → rowView r ≡ rowN fs) ⌝ }
+    ensures { λ r. ⌜ rowGood r ≡ true ⌝ }
 {
     if m != 2 {
         return NO_ROW;
@@ -54,7 +65,7 @@ fn form_n(m: usize, n: u16) -> RowData
         return NO_ROW;
     }
     RowData {
-        group: 1,
+        group: GROUP_N,
         rights: 0,
         size: n,
         variable: NO_NUMBER,
@@ -65,8 +76,9 @@ fn form_n(m: usize, n: u16) -> RowData
 
 // An R or an E row.
 fn form_pair(group: u8, m: usize, s: u16, t: u16, rights: u8) -> RowData
-    requires { ⌜ 0 < group ⌝ }
+    requires { ⌜ pairGroup group ≡ true ⌝ }
     ensures { λ r. ⌜ ((fs : List (List ℕ)) → m ≡ length fs → numberOf s ≡ siteField (at fs 1) → numberOf t ≡ siteField (at fs 2) → rightsOf rights ≡ rightsField (at fs 3) → rowView r ≡ rowPair group fs) ⌝ }
+    ensures { λ r. ⌜ rowGood r ≡ true ⌝ }
 {
     if m != 4 {
         return NO_ROW;
@@ -115,6 +127,7 @@ fn form_pair(group: u8, m: usize, s: u16, t: u16, rights: u8) -> RowData
 // A D row.
 fn form_box(m: usize, k: u16, t: Name, rights: u8) -> RowData
     ensures { λ r. ⌜ ((fs : List (List ℕ)) → m ≡ length fs → numberOf k ≡ number (at fs 1) → Named (at fs 2) t → rightsOf rights ≡ rightsField (at fs 3) → rowView r ≡ rowD fs) ⌝ }
+    ensures { λ r. ⌜ rowGood r ≡ true ⌝ }
 {
     if m != 4 {
         return NO_ROW;
@@ -135,7 +148,7 @@ fn form_box(m: usize, k: u16, t: Name, rights: u8) -> RowData
             fields: NO_FIELDS,
         };
         return RowData {
-            group: 3,
+            group: GROUP_D,
             rights,
             size: 0,
             variable: NO_NUMBER,
@@ -148,8 +161,9 @@ fn form_box(m: usize, k: u16, t: Name, rights: u8) -> RowData
 
 // A T or an A row.
 fn form_tuple(group: u8, s: u16, fields: Four) -> RowData
-    requires { ⌜ 0 < group ⌝ }
+    requires { ⌜ tupleGroup group ≡ true ⌝ }
     ensures { λ r. ⌜ ((fs : List (List ℕ)) → numberOf s ≡ siteField (at fs 1) → FourAt fs 2 fields → rowView r ≡ rowTuple group fs) ⌝ }
+    ensures { λ r. ⌜ rowGood r ≡ true ⌝ }
 {
     if NO_NUMBER <= s {
         return NO_ROW;
@@ -182,6 +196,7 @@ fn form_tuple(group: u8, s: u16, fields: Four) -> RowData
 // An L row.
 fn form_root(m: usize, s: u16, q: u16) -> RowData
     ensures { λ r. ⌜ ((fs : List (List ℕ)) → m ≡ length fs → numberOf s ≡ siteField (at fs 1) → numberOf q ≡ number (at fs 2) → rowView r ≡ rowL fs) ⌝ }
+    ensures { λ r. ⌜ rowGood r ≡ true ⌝ }
 {
     if m != 3 {
         return NO_ROW;
@@ -205,7 +220,7 @@ fn form_root(m: usize, s: u16, q: u16) -> RowData
         fields: NO_FIELDS,
     };
     RowData {
-        group: 5,
+        group: GROUP_L,
         rights: 0,
         size: 0,
         variable: NO_NUMBER,
@@ -217,6 +232,7 @@ fn form_root(m: usize, s: u16, q: u16) -> RowData
 // A B row.
 fn form_bound(m: usize, u: u16, s: u16) -> RowData
     ensures { λ r. ⌜ ((fs : List (List ℕ)) → m ≡ length fs → numberOf u ≡ varField (at fs 1) → numberOf s ≡ siteField (at fs 2) → rowView r ≡ rowB fs) ⌝ }
+    ensures { λ r. ⌜ rowGood r ≡ true ⌝ }
 {
     if m != 3 {
         return NO_ROW;
@@ -240,7 +256,7 @@ fn form_bound(m: usize, u: u16, s: u16) -> RowData
         fields: NO_FIELDS,
     };
     RowData {
-        group: 7,
+        group: GROUP_B,
         rights: 0,
         size: 0,
         variable: u,
@@ -250,7 +266,9 @@ fn form_bound(m: usize, u: u16, s: u16) -> RowData
 }
 
 fn form_q(q: u16, line: LineData) -> RowData
+    requires { ⌜ lineGood line ≡ true ⌝ }
     ensures { λ r. ⌜ ((fs : List (List ℕ)) → numberOf q ≡ number (at fs 1) → lineView line ≡ lineForm (drop 2 fs) → rowView r ≡ rowQ fs) ⌝ }
+    ensures { λ r. ⌜ rowGood r ≡ true ⌝ }
 {
     let kind = line.kind;
     if NO_NUMBER <= q {
@@ -260,7 +278,7 @@ fn form_q(q: u16, line: LineData) -> RowData
         return NO_ROW;
     }
     RowData {
-        group: 6,
+        group: GROUP_Q,
         rights: 0,
         size: 0,
         variable: NO_NUMBER,
@@ -273,14 +291,16 @@ fn form_q(q: u16, line: LineData) -> RowData
 fn row_n(row: &[u8], edges: &[usize; EDGES], n: usize) -> RowData
     requires { ⌜ Cut (now row) (now edges) n ⌝ }
     ensures { λ r. ⌜ rowView r ≡ rowN (split comma (now (row .entry))) ⌝ }
+    ensures { λ r. ⌜ rowGood r ≡ true ⌝ }
 {
     form_n(n, lines::number_at(row, edges, n, 1))
 }
 
 fn row_pair(group: u8, row: &[u8], edges: &[usize; EDGES], n: usize) -> RowData
     requires { ⌜ Cut (now row) (now edges) n ⌝ }
-    requires { ⌜ 0 < group ⌝ }
+    requires { ⌜ pairGroup group ≡ true ⌝ }
     ensures { λ r. ⌜ rowView r ≡ rowPair group (split comma (now (row .entry))) ⌝ }
+    ensures { λ r. ⌜ rowGood r ≡ true ⌝ }
 {
     let s = lines::site_at(row, edges, n, 1);
     let t = lines::site_at(row, edges, n, 2);
@@ -290,6 +310,7 @@ fn row_pair(group: u8, row: &[u8], edges: &[usize; EDGES], n: usize) -> RowData
 fn row_box(row: &[u8], edges: &[usize; EDGES], n: usize) -> RowData
     requires { ⌜ Cut (now row) (now edges) n ⌝ }
     ensures { λ r. ⌜ rowView r ≡ rowD (split comma (now (row .entry))) ⌝ }
+    ensures { λ r. ⌜ rowGood r ≡ true ⌝ }
 {
     let k = lines::number_at(row, edges, n, 1);
     let t = lines::name_at(row, edges, n, 2);
@@ -298,8 +319,9 @@ fn row_box(row: &[u8], edges: &[usize; EDGES], n: usize) -> RowData
 
 fn row_tuple(group: u8, row: &[u8], edges: &[usize; EDGES], n: usize) -> RowData
     requires { ⌜ Cut (now row) (now edges) n ⌝ }
-    requires { ⌜ 0 < group ⌝ }
+    requires { ⌜ tupleGroup group ≡ true ⌝ }
     ensures { λ r. ⌜ rowView r ≡ rowTuple group (split comma (now (row .entry))) ⌝ }
+    ensures { λ r. ⌜ rowGood r ≡ true ⌝ }
 {
     let s = lines::site_at(row, edges, n, 1);
     form_tuple(group, s, lines::four_at(row, edges, n, 2))
@@ -308,6 +330,7 @@ fn row_tuple(group: u8, row: &[u8], edges: &[usize; EDGES], n: usize) -> RowData
 fn row_root(row: &[u8], edges: &[usize; EDGES], n: usize) -> RowData
     requires { ⌜ Cut (now row) (now edges) n ⌝ }
     ensures { λ r. ⌜ rowView r ≡ rowL (split comma (now (row .entry))) ⌝ }
+    ensures { λ r. ⌜ rowGood r ≡ true ⌝ }
 {
     let s = lines::site_at(row, edges, n, 1);
     form_root(n, s, lines::number_at(row, edges, n, 2))
@@ -316,6 +339,7 @@ fn row_root(row: &[u8], edges: &[usize; EDGES], n: usize) -> RowData
 fn row_bound(row: &[u8], edges: &[usize; EDGES], n: usize) -> RowData
     requires { ⌜ Cut (now row) (now edges) n ⌝ }
     ensures { λ r. ⌜ rowView r ≡ rowB (split comma (now (row .entry))) ⌝ }
+    ensures { λ r. ⌜ rowGood r ≡ true ⌝ }
 {
     let u = lines::variable_at(row, edges, n, 1);
     form_bound(n, u, lines::site_at(row, edges, n, 2))
@@ -324,6 +348,7 @@ fn row_bound(row: &[u8], edges: &[usize; EDGES], n: usize) -> RowData
 fn row_q(row: &[u8], edges: &[usize; EDGES], n: usize) -> RowData
     requires { ⌜ Cut (now row) (now edges) n ⌝ }
     ensures { λ r. ⌜ rowView r ≡ rowQ (split comma (now (row .entry))) ⌝ }
+    ensures { λ r. ⌜ rowGood r ≡ true ⌝ }
 {
     let q = lines::number_at(row, edges, n, 1);
     form_q(q, lines::line_at(row, edges, n))
@@ -334,17 +359,18 @@ fn row_in(group: u8, row: &[u8], edges: &[usize; EDGES], n: usize) -> RowData
     requires { ⌜ Cut (now row) (now edges) n ⌝ }
     requires { ⌜ group ≡ letterOf (at (split comma (now row)) 0) ⌝ }
     ensures { λ r. ⌜ rowView r ≡ rowForm (split comma (now (row .entry))) ⌝ }
+    ensures { λ r. ⌜ rowGood r ≡ true ⌝ }
 {
     match group {
-        1 => row_n(row, edges, n),
-        2 => row_pair(2, row, edges, n),
-        3 => row_box(row, edges, n),
-        4 => row_tuple(4, row, edges, n),
-        5 => row_root(row, edges, n),
-        6 => row_q(row, edges, n),
-        7 => row_bound(row, edges, n),
-        8 => row_tuple(8, row, edges, n),
-        9 => row_pair(9, row, edges, n),
+        GROUP_N => row_n(row, edges, n),
+        GROUP_R => row_pair(GROUP_R, row, edges, n),
+        GROUP_D => row_box(row, edges, n),
+        GROUP_T => row_tuple(GROUP_T, row, edges, n),
+        GROUP_L => row_root(row, edges, n),
+        GROUP_Q => row_q(row, edges, n),
+        GROUP_B => row_bound(row, edges, n),
+        GROUP_A => row_tuple(GROUP_A, row, edges, n),
+        GROUP_E => row_pair(GROUP_E, row, edges, n),
         _ => NO_ROW,
     }
 }
@@ -352,6 +378,7 @@ fn row_in(group: u8, row: &[u8], edges: &[usize; EDGES], n: usize) -> RowData
 // The form of a row, without the byte that ends it.
 pub fn row_of(row: &[u8]) -> RowData
     ensures { λ r. ⌜ rowView r ≡ rowOf (now (row .entry)) ⌝ }
+    ensures { λ r. ⌜ rowGood r ≡ true ⌝ }
 {
     let mut edges = [0usize; EDGES];
     let n = text::cuts(row, &mut edges);

@@ -4,10 +4,10 @@ use mathlib.Core.Path.{_≡_, refl, sym, ap, subst, _∙_}
 use mathlib.Core.Bool.{Bool, true, false}
 use mathlib.Core.List.{List, [], _∷_, map}
 use mathlib.Core.Option.{Option, none, some}
-use Prim.Native.Nat.{ℕ, suc, _+_, _-_, _≤_, _<_}
+use Prim.Native.Nat.{ℕ, _+_, _≤_, _<_, _-_}
 use native.Mathlib.Nat.{le-step, not-suc-le-self}
 use native.Mathlib.Omega.{arith}
-use borrow.Author.Tests.{ne-eqb}
+use borrow.Author.Tests.{ne-eqb, le-leb, lt-leb}
 use lib.Dec.{eqb, ltb}
 use lib.ListN.{length, getD, drop, length-drop}
 use lib.Seq.{getD-drop}
@@ -15,12 +15,12 @@ use Rattle.sets.specs.Lists.{_&_, all, same}
 use Rattle.klaim.specs.declared.Loc.{Loc}
 use Rattle.klaim.specs.declared.Slot.{Slot}
 use Rattle.klaim.specs.Process.{Line, Nil, Par, Rep, Out, In, Read, Eval, Accept}
-use Rattle.klaim.specs.Rows.{at, text, given, otherwise, _>>=_, number, locField, slotField, lineNil, linePar, lineRep, lineOut, lineGet, lineEval, lineAccept, lineForm}
+use Rattle.klaim.specs.Rows.{at, text, given, _>>=_, number, locField, slotField, lineNil, linePar, lineRep, lineOut, lineGet, lineEval, lineAccept, lineForm}
 use Rattle.text.specs.Fields.{noNumber, numberOf, upTo, loc, slot, Named, words, wordOf}
 use Rattle.text.proofs.Names.{choose, distinct, otherwise-none, chosen, chosen-none, placed-low, none-of-nine}
 use Rattle.lines.specs.declared.Words.{Words}
 use Rattle.lines.specs.declared.LineData.{LineData}
-use Rattle.lines.specs.Lines.{names, fitAll, FourAt, Said, getKind, lineOf}
+use Rattle.lines.specs.Lines.{names, fitAll, FourAt, Said, getKind, lineOf, lineShape, lineGood}
 use Rattle.lines.proofs.Templates.{four-behind, fields-are}
 
 -- a reading with a test, and what follows it
@@ -34,7 +34,8 @@ unfolding given
 given-none true = refl
 given-none false = refl
 
-abbrev below : ℕ → Bool
+-- a scalar that stands for a number
+abbrev pub below : ℕ → Bool
 below n = ltb n noNumber
 
 -- the forms of a line whose words are x
@@ -71,6 +72,10 @@ module _ (ws : List (List ℕ)) (x : Words) (S : Said ws x) where
 pub get-line : (d : LineData) → 4 < d .kind → d .kind < 7 → lineOf d ≡ getKind (d .kind) (d .next) (loc (d .target)) (map slot (names (d .fields)))
 unfolding lineOf
 get-line d p q = rw (ne-eqb (d .kind) 1 (λ e. omega arith), ne-eqb (d .kind) 2 (λ e. omega arith), ne-eqb (d .kind) 3 (λ e. omega arith), ne-eqb (d .kind) 4 (λ e. omega arith), ne-eqb (d .kind) 7 (λ e. omega arith), ne-eqb (d .kind) 8 (λ e. omega arith))
+
+pub get-good : (d : LineData) → 4 < d .kind → d .kind < 7 → lineShape true false false 3 4 d ≡ true → lineGood d ≡ true
+unfolding lineGood _&_
+get-good d p q h = rw (le-leb (d .kind) 8 (omega arith), lt-leb (d .kind) 1 (omega arith), ne-eqb (d .kind) 2 (λ e. omega arith), ne-eqb (d .kind) 3 (λ e. omega arith), ne-eqb (d .kind) 4 (λ e. omega arith), ne-eqb (d .kind) 7 (λ e. omega arith), ne-eqb (d .kind) 8 (λ e. omega arith)) h
 
 -- the form of a line, by the kind of its word
 abbrev kinds : List (List ℕ) → List (Option Line)

@@ -3,8 +3,8 @@
 use mathlib.Core.Path.{_≡_}
 use mathlib.Core.Bool.{Bool, true, false, cond}
 use mathlib.Core.List.{List, [], _∷_, map}
-use mathlib.Core.Option.{Option, none, some}
-use Prim.Native.Nat.{ℕ, _+_, _-_}
+use mathlib.Core.Option.{Option, some}
+use Prim.Native.Nat.{ℕ, zero, suc, _+_, _-_}
 use lib.Dec.{eqb, leb, ltb}
 use lib.ListN.{length, take}
 use Rattle.sets.specs.Lists.{_&_, all}
@@ -12,7 +12,7 @@ use Rattle.klaim.specs.Limits.{fieldLimit}
 use Rattle.klaim.specs.Process.{Line, Nil, Par, Rep, Out, In, Read, Eval, Accept}
 use Rattle.klaim.specs.Rows.{at, given, number}
 use Rattle.text.specs.declared.Name.{Name}
-use Rattle.text.specs.Fields.{numberOf, upTo, loc, slot, Named, wordOf}
+use Rattle.text.specs.Fields.{noNumber, numberOf, upTo, loc, slot, Named, wordOf}
 use Rattle.lines.specs.declared.Four.{Four}
 use Rattle.lines.specs.declared.Words.{Words}
 use Rattle.lines.specs.declared.LineData.{LineData}
@@ -64,3 +64,35 @@ lineOf d =
 -- 0 stands for a line that is not of its form
 unfoldable pub lineView : LineData → Option Line
 lineView d = given (ltb 0 (d .kind)) (some (lineOf d))
+
+-- a number stands there, or none does
+unfoldable pub present : Bool → ℕ → Bool
+present true n = ltb n noNumber
+present false n = eqb n noNumber
+
+-- a name of the kinds from 1 to k, or none; and so for the fields
+unfoldable pub nameFits : ℕ → Name → Bool
+nameFits zero m = eqb (m .kind) 0
+nameFits (suc k) m = upTo (suc k) m
+
+unfoldable pub fieldsFit : ℕ → Four → Bool
+fieldsFit zero f = eqb (f .count) 0
+fieldsFit (suc k) f = fitAll (suc k) f
+
+-- whether a second line and a sandbox stand there beside the line that follows, and the kinds of the target and of the fields
+unfoldable pub lineShape : Bool → Bool → Bool → ℕ → ℕ → LineData → Bool
+lineShape next other sandbox target fields d =
+    present next (d .next) & present other (d .other) & present sandbox (d .sandbox)
+    & nameFits target (d .target) & fieldsFit fields (d .fields)
+
+-- what stands in a line is what its kind has, and nothing else
+unfoldable pub lineGood : LineData → Bool
+lineGood d =
+    leb (d .kind) 8
+    & cond (leb (d .kind) 1) (lineShape false false false 0 0 d)
+    (cond (eqb (d .kind) 2) (lineShape true true false 0 0 d)
+    (cond (eqb (d .kind) 3) (lineShape true false false 0 0 d)
+    (cond (eqb (d .kind) 4) (lineShape true false false 3 3 d)
+    (cond (eqb (d .kind) 7) (lineShape true true true 3 0 d)
+    (cond (eqb (d .kind) 8) (lineShape true false true 0 0 d)
+    (lineShape true false false 3 4 d))))))

@@ -1,5 +1,6 @@
 //! What the fields of a cut row say, and the form of a process line.
 ghost use mathlib.Core.Path.{_≡_};
+ghost use mathlib.Core.Bool.{true};
 ghost use mathlib.Core.List.{List};
 ghost use Prim.Native.Nat.{ℕ, _+_, _-_, _<_};
 ghost use lib.ListN.{drop};
@@ -7,10 +8,18 @@ ghost use Rattle.sets.specs.Lists.{_&_};
 ghost use Rattle.klaim.specs.Rows.{split, comma, at, number, siteField, varField, rightsField, lineNil, linePar, lineRep, lineOut, lineGet, lineEval, lineAccept, lineForm};
 ghost use Rattle.text.specs.Pieces.{edgeLimit, Cut};
 ghost use Rattle.text.specs.Fields.{numberOf, rightsOf, upTo, Named, wordOf};
-ghost use Rattle.lines.specs.Lines.{fitAll, FourAt, Said, getKind, lineView};
+ghost use Rattle.lines.specs.Lines.{fitAll, FourAt, Said, getKind, lineView, lineGood};
+use text::ACCEPT;
 use text::EDGES;
+use text::EVAL;
+use text::IN;
+use text::NIL;
 use text::NO_NUMBER;
 use text::Name;
+use text::OUT;
+use text::PAR;
+use text::READ;
+use text::REP;
 
 // What field k of a cut row of n fields says.
 pub fn number_at(row: &[u8], edges: &[usize; EDGES], n: usize, k: usize) -> u16
@@ -199,13 +208,14 @@ const SLOTS: u8 = 4;
 
 fn form_nil(x: Words) -> LineData
     ensures { λ r. ⌜ ((ws : List (List ℕ)) → Said ws x → lineView r ≡ lineNil ws) ⌝ }
+    ensures { λ r. ⌜ lineGood r ≡ true ⌝ }
 {
     let n = x.count;
     if n != 1 {
         return NO_LINE;
     }
     LineData {
-        kind: 1,
+        kind: NIL,
         next: NO_NUMBER,
         other: NO_NUMBER,
         sandbox: NO_NUMBER,
@@ -216,6 +226,7 @@ fn form_nil(x: Words) -> LineData
 
 fn form_par(x: Words) -> LineData
     ensures { λ r. ⌜ ((ws : List (List ℕ)) → Said ws x → lineView r ≡ linePar ws) ⌝ }
+    ensures { λ r. ⌜ lineGood r ≡ true ⌝ }
 {
     let n = x.count;
     let a = x.a;
@@ -230,7 +241,7 @@ fn form_par(x: Words) -> LineData
         return NO_LINE;
     }
     LineData {
-        kind: 2,
+        kind: PAR,
         next: a,
         other: b,
         sandbox: NO_NUMBER,
@@ -241,6 +252,7 @@ fn form_par(x: Words) -> LineData
 
 fn form_rep(x: Words) -> LineData
     ensures { λ r. ⌜ ((ws : List (List ℕ)) → Said ws x → lineView r ≡ lineRep ws) ⌝ }
+    ensures { λ r. ⌜ lineGood r ≡ true ⌝ }
 {
     let n = x.count;
     let a = x.a;
@@ -251,7 +263,7 @@ fn form_rep(x: Words) -> LineData
         return NO_LINE;
     }
     LineData {
-        kind: 3,
+        kind: REP,
         next: a,
         other: NO_NUMBER,
         sandbox: NO_NUMBER,
@@ -262,6 +274,7 @@ fn form_rep(x: Words) -> LineData
 
 fn form_out(x: Words) -> LineData
     ensures { λ r. ⌜ ((ws : List (List ℕ)) → Said ws x → lineView r ≡ lineOut ws) ⌝ }
+    ensures { λ r. ⌜ lineGood r ≡ true ⌝ }
 {
     let next = x.a;
     let target = x.target;
@@ -272,7 +285,7 @@ fn form_out(x: Words) -> LineData
     if fit(target, LOCS) {
         if fits(fields, LOCS) {
             return LineData {
-                kind: 4,
+                kind: OUT,
                 next,
                 other: NO_NUMBER,
                 sandbox: NO_NUMBER,
@@ -284,11 +297,12 @@ fn form_out(x: Words) -> LineData
     NO_LINE
 }
 
-// `in`, kind 5, and `read`, kind 6.
+// `in` and `read`.
 fn form_get(x: Words, kind: u8) -> LineData
     requires { ⌜ 4 < kind ⌝ }
     requires { ⌜ kind < 7 ⌝ }
     ensures { λ r. ⌜ ((ws : List (List ℕ)) → Said ws x → lineView r ≡ lineGet (getKind kind) ws) ⌝ }
+    ensures { λ r. ⌜ lineGood r ≡ true ⌝ }
 {
     let next = x.a;
     let target = x.target;
@@ -313,6 +327,7 @@ fn form_get(x: Words, kind: u8) -> LineData
 
 fn form_eval(x: Words) -> LineData
     ensures { λ r. ⌜ ((ws : List (List ℕ)) → Said ws x → lineView r ≡ lineEval ws) ⌝ }
+    ensures { λ r. ⌜ lineGood r ≡ true ⌝ }
 {
     let n = x.count;
     let next = x.a;
@@ -333,7 +348,7 @@ fn form_eval(x: Words) -> LineData
     }
     if fit(target, LOCS) {
         return LineData {
-            kind: 7,
+            kind: EVAL,
             next,
             other,
             sandbox,
@@ -346,6 +361,7 @@ fn form_eval(x: Words) -> LineData
 
 fn form_accept(x: Words) -> LineData
     ensures { λ r. ⌜ ((ws : List (List ℕ)) → Said ws x → lineView r ≡ lineAccept ws) ⌝ }
+    ensures { λ r. ⌜ lineGood r ≡ true ⌝ }
 {
     let n = x.count;
     let next = x.a;
@@ -360,7 +376,7 @@ fn form_accept(x: Words) -> LineData
         return NO_LINE;
     }
     LineData {
-        kind: 8,
+        kind: ACCEPT,
         next,
         other: NO_NUMBER,
         sandbox,
@@ -371,17 +387,18 @@ fn form_accept(x: Words) -> LineData
 
 fn form_line(x: Words) -> LineData
     ensures { λ r. ⌜ ((ws : List (List ℕ)) → Said ws x → lineView r ≡ lineForm ws) ⌝ }
+    ensures { λ r. ⌜ lineGood r ≡ true ⌝ }
 {
     let kind = x.kind;
     match kind {
-        1 => form_nil(x),
-        2 => form_par(x),
-        3 => form_rep(x),
-        4 => form_out(x),
-        5 => form_get(x, 5),
-        6 => form_get(x, 6),
-        7 => form_eval(x),
-        8 => form_accept(x),
+        NIL => form_nil(x),
+        PAR => form_par(x),
+        REP => form_rep(x),
+        OUT => form_out(x),
+        IN => form_get(x, IN),
+        READ => form_get(x, READ),
+        EVAL => form_eval(x),
+        ACCEPT => form_accept(x),
         _ => NO_LINE,
     }
 }
@@ -390,6 +407,7 @@ fn form_line(x: Words) -> LineData
 pub fn line_at(row: &[u8], edges: &[usize; EDGES], n: usize) -> LineData
     requires { ⌜ Cut (now row) (now edges) n ⌝ }
     ensures { λ r. ⌜ lineView r ≡ lineForm (drop 2 (split comma (now (row .entry)))) ⌝ }
+    ensures { λ r. ⌜ lineGood r ≡ true ⌝ }
 {
     form_line(words_at(row, edges, n))
 }

@@ -1,23 +1,21 @@
 -- What the answers of the field readers stand for.
 -- Assumes nothing.
 use mathlib.Core.Path.{_≡_}
-use mathlib.Core.Bool.{Bool, true, false, not, cond}
+use mathlib.Core.Bool.{Bool, not, cond}
 use mathlib.Core.List.{List, [], _∷_}
-use mathlib.Core.Option.{Option, none, some}
+use mathlib.Core.Option.{Option, some}
 use Prim.Native.Nat.{ℕ, suc}
-use Prim.Native.Char.{Char, code}
+use Prim.Native.Char.{code}
 use Prim.Native.String.{String}
 use lib.Dec.{eqb, leb, ltb}
 use lib.ListN.{length, getD}
 use Rattle.sets.specs.Lists.{_&_, either, all, only, same}
 use Rattle.sets.specs.Bits.{everyBit}
-use Rattle.klaim.specs.declared.Site.{Site}
-use Rattle.klaim.specs.declared.Var.{Var}
 use Rattle.klaim.specs.declared.Loc.{Loc}
 use Rattle.klaim.specs.declared.Loc.the-variants.{At, Here, Use}
 use Rattle.klaim.specs.declared.Slot.{Slot}
 use Rattle.klaim.specs.declared.Slot.the-variants.{Value, Bind}
-use Rattle.klaim.specs.Rows.{text, digit, decimal, siteField, locField, slotField, towards, given, otherwise, _>>=_}
+use Rattle.klaim.specs.Rows.{text, digit, decimal, siteField, locField, slotField, towards, given, _>>=_}
 use Rattle.text.specs.declared.Name.{Name}
 
 -- the scalar that stands for no number
@@ -86,9 +84,12 @@ unfoldable pub placeIn : ℕ → List String → List ℕ → ℕ
 placeIn n [] f = 0
 placeIn n (w ∷ ws) f = cond (same f (text w)) n (placeIn (suc n) ws f)
 
--- the group of a letter
+-- the groups by their letters, counted from 1
+abbrev pub letters : List String
+letters = "N" ∷ "R" ∷ "D" ∷ "T" ∷ "L" ∷ "Q" ∷ "B" ∷ "A" ∷ "E" ∷ []
+
 unfoldable pub letterOf : List ℕ → ℕ
-letterOf f = placeIn 1 ("N" ∷ "R" ∷ "D" ∷ "T" ∷ "L" ∷ "Q" ∷ "B" ∷ "A" ∷ "E" ∷ []) f
+letterOf f = placeIn 1 letters f
 
 -- the kinds of process lines
 abbrev pub words : List String

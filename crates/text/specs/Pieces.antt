@@ -1,7 +1,7 @@
 -- Where rows and fields begin and end.
 -- Assumes nothing.
 use mathlib.Core.Path.{_≡_}
-use mathlib.Core.List.{List, []}
+use mathlib.Core.List.{List}
 use Prim.Native.Nat.{ℕ, zero, suc, _+_, _<_, _≤_}
 use lib.ListN.{length, getD, drop}
 use Rattle.klaim.specs.Rows.{split, comma, at}

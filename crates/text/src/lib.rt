@@ -275,19 +275,38 @@ pub fn named(f: &[u8]) -> Name
     pick_name(binder(f), site(f), is_self(f), variable(f))
 }
 
+// The groups of rows.
+pub const GROUP_N: u8 = 1;
+
+pub const GROUP_R: u8 = 2;
+
+pub const GROUP_D: u8 = 3;
+
+pub const GROUP_T: u8 = 4;
+
+pub const GROUP_L: u8 = 5;
+
+pub const GROUP_Q: u8 = 6;
+
+pub const GROUP_B: u8 = 7;
+
+pub const GROUP_A: u8 = 8;
+
+pub const GROUP_E: u8 = 9;
+
 fn letter_byte(b: u8) -> u8
     ensures { λ r. ⌜ r ≡ letterOf (b ∷ []) ⌝ }
 {
     match b {
-        b'N' => 1,
-        b'R' => 2,
-        b'D' => 3,
-        b'T' => 4,
-        b'L' => 5,
-        b'Q' => 6,
-        b'B' => 7,
-        b'A' => 8,
-        b'E' => 9,
+        b'N' => GROUP_N,
+        b'R' => GROUP_R,
+        b'D' => GROUP_D,
+        b'T' => GROUP_T,
+        b'L' => GROUP_L,
+        b'Q' => GROUP_Q,
+        b'B' => GROUP_B,
+        b'A' => GROUP_A,
+        b'E' => GROUP_E,
         _ => 0,
     }
 }
@@ -302,33 +321,50 @@ pub fn letter(f: &[u8]) -> u8
     0
 }
 
+// The kinds of process lines.
+pub const NIL: u8 = 1;
+
+pub const PAR: u8 = 2;
+
+pub const REP: u8 = 3;
+
+pub const OUT: u8 = 4;
+
+pub const IN: u8 = 5;
+
+pub const READ: u8 = 6;
+
+pub const EVAL: u8 = 7;
+
+pub const ACCEPT: u8 = 8;
+
 // The kind of a process line by its word, 0 for any other field.
 pub fn word(f: &[u8]) -> u8
     ensures { λ r. ⌜ r ≡ wordOf (now (f .entry)) ⌝ }
 {
     if same(f, b"nil") {
-        return 1;
+        return NIL;
     }
     if same(f, b"par") {
-        return 2;
+        return PAR;
     }
     if same(f, b"rep") {
-        return 3;
+        return REP;
     }
     if same(f, b"out") {
-        return 4;
+        return OUT;
     }
     if same(f, b"in") {
-        return 5;
+        return IN;
     }
     if same(f, b"read") {
-        return 6;
+        return READ;
     }
     if same(f, b"eval") {
-        return 7;
+        return EVAL;
     }
     if same(f, b"accept") {
-        return 8;
+        return ACCEPT;
     }
     0
 }

@@ -12,7 +12,7 @@ form-bound-requires : tie.Need-form-bound-requires
 form-bound-requires c κs = search needs
 
 returns : tie.Need-returns
-returns c = c .form-bound .ensures _ (c .before .before .before .before .pre .count) (c .before .before .variable-at .ensures) (c .before .site-at .ensures)
+returns c = (c .form-bound .ensures .0 _ (c .before .before .before .before .pre .count) (c .before .before .variable-at .ensures) (c .before .site-at .ensures), c .form-bound .ensures .1)
 
 pub row-bound-spec : {M : Type 1} → statement M
 row-bound-spec =

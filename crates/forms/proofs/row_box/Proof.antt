@@ -15,7 +15,7 @@ form-box-requires : tie.Need-form-box-requires
 form-box-requires c κs = search needs
 
 returns : tie.Need-returns
-returns c = c .form-box .ensures _ (c .before .before .before .before .before .pre .count) (c .before .before .before .number-at .ensures) (c .before .before .name-at .ensures) (c .before .rights-at .ensures)
+returns c = (c .form-box .ensures .0 _ (c .before .before .before .before .before .pre .count) (c .before .before .before .number-at .ensures) (c .before .before .name-at .ensures) (c .before .rights-at .ensures), c .form-box .ensures .1)
 
 pub row-box-spec : {M : Type 1} → statement M
 row-box-spec =

@@ -15,7 +15,7 @@ form-pair-requires : tie.Need-form-pair-requires
 form-pair-requires c κs = search needs
 
 returns : tie.Need-returns
-returns c = c .form-pair .ensures _ (c .before .before .before .before .before .pre .0 .count) (c .before .before .before .site-at .ensures) (c .before .before .site-at2 .ensures) (c .before .rights-at .ensures)
+returns c = (c .form-pair .ensures .0 _ (c .before .before .before .before .before .pre .0 .count) (c .before .before .before .site-at .ensures) (c .before .before .site-at2 .ensures) (c .before .rights-at .ensures), c .form-pair .ensures .1)
 
 pub row-pair-spec : {M : Type 1} → statement M
 row-pair-spec =

@@ -12,7 +12,7 @@ form-tuple-requires : tie.Need-form-tuple-requires
 form-tuple-requires c κs = search needs
 
 returns : tie.Need-returns
-returns c = c .form-tuple .ensures _ (c .before .before .site-at .ensures) (c .before .four-at .ensures)
+returns c = (c .form-tuple .ensures .0 _ (c .before .before .site-at .ensures) (c .before .four-at .ensures), c .form-tuple .ensures .1)
 
 pub row-tuple-spec : {M : Type 1} → statement M
 row-tuple-spec = tie.close (tie.spec site-at-requires four-at-requires form-tuple-requires returns)

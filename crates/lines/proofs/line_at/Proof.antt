@@ -9,7 +9,7 @@ form-line-requires : tie.Need-form-line-requires
 form-line-requires c κs = search needs
 
 returns : tie.Need-returns
-returns c = c .form-line .ensures _ (c .before .words-at .ensures)
+returns c = (c .form-line .ensures .0 _ (c .before .words-at .ensures), c .form-line .ensures .1)
 
 pub line-at-spec : {M : Type 1} → statement M
 line-at-spec = tie.close (tie.spec words-at-requires form-line-requires returns)
