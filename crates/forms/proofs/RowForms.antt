@@ -24,10 +24,10 @@ use Rattle.forms.specs.Forms.{pairGroup, tupleGroup, plainShape, plainGo
 use Rattle.lines.proofs.Templates.{fields-are}
 use Rattle.lines.proofs.LineKinds.{given-then, below}
 
-abbrev rowAs : ℕ → ℕ → List ℕ → List ℕ → List ℕ → List ℕ → ℕ → Row
+abbrev pub rowAs : ℕ → ℕ → List ℕ → List ℕ → List ℕ → List ℕ → ℕ → Row
 rowAs group size boxes vars sites lines rights = record { group = group; size = size; boxes = boxes; vars = vars; sites = sites; lines = lines; rights = rights; process = Nil }
 
-abbrev numbers : Four → List ℕ
+abbrev pub numbers : Four → List ℕ
 numbers f = map (λ (m : Name). m .number) (names f)
 
 pub union-none : (xs : List ℕ) → xs ∪ [] ≡ xs
@@ -86,7 +86,7 @@ unfolding letterOf
 letter-low f = omega (arith, placed-low 0 letters f)
 
 -- the groups of pairs and of tuples
-pair-case : (g : ℕ) → pairGroup g ≡ true → (g ≡ groupR) ⊎ (g ≡ groupE)
+pub pair-case : (g : ℕ) → pairGroup g ≡ true → (g ≡ groupR) ⊎ (g ≡ groupE)
 unfolding pairGroup
 pair-case g h = go (or-case _ _ h)
   where
@@ -94,7 +94,7 @@ pair-case g h = go (or-case _ _ h)
     go (inl e) = inl (eqb-eq e)
     go (inr e) = inr (eqb-eq e)
 
-tuple-case : (g : ℕ) → tupleGroup g ≡ true → (g ≡ groupT) ⊎ (g ≡ groupA)
+pub tuple-case : (g : ℕ) → tupleGroup g ≡ true → (g ≡ groupT) ⊎ (g ≡ groupA)
 unfolding tupleGroup
 tuple-case g h = go (or-case _ _ h)
   where
