@@ -13,7 +13,6 @@ use lines::Four;
 use lines::LineData;
 use lines::NO_FIELDS;
 use lines::NO_LINE;
-use lines::NO_NAME;
 use text::EDGES;
 use text::GROUP_A;
 use text::GROUP_B;
@@ -64,14 +63,10 @@ fn form_n(m: usize, n: u16) -> RowData
     if NO_NUMBER <= n {
         return NO_ROW;
     }
-    RowData {
-        group: GROUP_N,
-        rights: 0,
-        size: n,
-        variable: NO_NUMBER,
-        own: NO_NUMBER,
-        line: NO_LINE,
-    }
+    let mut row = NO_ROW;
+    row.group = GROUP_N;
+    row.size = n;
+    row
 }
 
 // An R or an E row.
@@ -92,36 +87,25 @@ fn form_pair(group: u8, m: usize, s: u16, t: u16, rights: u8) -> RowData
     if rights == 0 {
         return NO_ROW;
     }
-    let target = Name {
+    let from = Name {
         kind: SITE,
         number: s,
     };
-    let fields = Four {
-        count: 1,
-        a: Name {
-            kind: SITE,
-            number: t,
-        },
-        b: NO_NAME,
-        c: NO_NAME,
-        d: NO_NAME,
+    let to = Name {
+        kind: SITE,
+        number: t,
     };
-    let line = LineData {
-        kind: 0,
-        next: NO_NUMBER,
-        other: NO_NUMBER,
-        sandbox: NO_NUMBER,
-        target,
-        fields,
-    };
-    RowData {
-        group,
-        rights,
-        size: 0,
-        variable: NO_NUMBER,
-        own: NO_NUMBER,
-        line,
-    }
+    let mut fields = NO_FIELDS;
+    fields.count = 1;
+    fields.a = to;
+    let mut line = NO_LINE;
+    line.target = from;
+    line.fields = fields;
+    let mut row = NO_ROW;
+    row.group = group;
+    row.rights = rights;
+    row.line = line;
+    row
 }
 
 // A D row.
@@ -139,22 +123,14 @@ fn form_box(m: usize, k: u16, t: Name, rights: u8) -> RowData
         return NO_ROW;
     }
     if lines::fit(t, PLACES) {
-        let line = LineData {
-            kind: 0,
-            next: NO_NUMBER,
-            other: NO_NUMBER,
-            sandbox: k,
-            target: t,
-            fields: NO_FIELDS,
-        };
-        return RowData {
-            group: GROUP_D,
-            rights,
-            size: 0,
-            variable: NO_NUMBER,
-            own: NO_NUMBER,
-            line,
-        };
+        let mut line = NO_LINE;
+        line.sandbox = k;
+        line.target = t;
+        let mut row = NO_ROW;
+        row.group = GROUP_D;
+        row.rights = rights;
+        row.line = line;
+        return row;
     }
     NO_ROW
 }
@@ -173,22 +149,13 @@ fn form_tuple(group: u8, s: u16, fields: Four) -> RowData
             kind: SITE,
             number: s,
         };
-        let line = LineData {
-            kind: 0,
-            next: NO_NUMBER,
-            other: NO_NUMBER,
-            sandbox: NO_NUMBER,
-            target,
-            fields,
-        };
-        return RowData {
-            group,
-            rights: 0,
-            size: 0,
-            variable: NO_NUMBER,
-            own: NO_NUMBER,
-            line,
-        };
+        let mut line = NO_LINE;
+        line.target = target;
+        line.fields = fields;
+        let mut row = NO_ROW;
+        row.group = group;
+        row.line = line;
+        return row;
     }
     NO_ROW
 }
@@ -211,22 +178,13 @@ fn form_root(m: usize, s: u16, q: u16) -> RowData
         kind: SITE,
         number: s,
     };
-    let line = LineData {
-        kind: 0,
-        next: NO_NUMBER,
-        other: NO_NUMBER,
-        sandbox: NO_NUMBER,
-        target,
-        fields: NO_FIELDS,
-    };
-    RowData {
-        group: GROUP_L,
-        rights: 0,
-        size: 0,
-        variable: NO_NUMBER,
-        own: q,
-        line,
-    }
+    let mut line = NO_LINE;
+    line.target = target;
+    let mut row = NO_ROW;
+    row.group = GROUP_L;
+    row.own = q;
+    row.line = line;
+    row
 }
 
 // A B row.
@@ -247,22 +205,13 @@ fn form_bound(m: usize, u: u16, s: u16) -> RowData
         kind: SITE,
         number: s,
     };
-    let line = LineData {
-        kind: 0,
-        next: NO_NUMBER,
-        other: NO_NUMBER,
-        sandbox: NO_NUMBER,
-        target,
-        fields: NO_FIELDS,
-    };
-    RowData {
-        group: GROUP_B,
-        rights: 0,
-        size: 0,
-        variable: u,
-        own: NO_NUMBER,
-        line,
-    }
+    let mut line = NO_LINE;
+    line.target = target;
+    let mut row = NO_ROW;
+    row.group = GROUP_B;
+    row.variable = u;
+    row.line = line;
+    row
 }
 
 fn form_q(q: u16, line: LineData) -> RowData
@@ -277,14 +226,11 @@ fn form_q(q: u16, line: LineData) -> RowData
     if kind == 0 {
         return NO_ROW;
     }
-    RowData {
-        group: GROUP_Q,
-        rights: 0,
-        size: 0,
-        variable: NO_NUMBER,
-        own: q,
-        line,
-    }
+    let mut row = NO_ROW;
+    row.group = GROUP_Q;
+    row.own = q;
+    row.line = line;
+    row
 }
 
 // The rows of each group, cut into n fields.

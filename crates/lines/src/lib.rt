@@ -214,14 +214,9 @@ fn form_nil(x: Words) -> LineData
     if n != 1 {
         return NO_LINE;
     }
-    LineData {
-        kind: NIL,
-        next: NO_NUMBER,
-        other: NO_NUMBER,
-        sandbox: NO_NUMBER,
-        target: NO_NAME,
-        fields: NO_FIELDS,
-    }
+    let mut line = NO_LINE;
+    line.kind = NIL;
+    line
 }
 
 fn form_par(x: Words) -> LineData
@@ -240,14 +235,11 @@ fn form_par(x: Words) -> LineData
     if NO_NUMBER <= b {
         return NO_LINE;
     }
-    LineData {
-        kind: PAR,
-        next: a,
-        other: b,
-        sandbox: NO_NUMBER,
-        target: NO_NAME,
-        fields: NO_FIELDS,
-    }
+    let mut line = NO_LINE;
+    line.kind = PAR;
+    line.next = a;
+    line.other = b;
+    line
 }
 
 fn form_rep(x: Words) -> LineData
@@ -262,14 +254,10 @@ fn form_rep(x: Words) -> LineData
     if NO_NUMBER <= a {
         return NO_LINE;
     }
-    LineData {
-        kind: REP,
-        next: a,
-        other: NO_NUMBER,
-        sandbox: NO_NUMBER,
-        target: NO_NAME,
-        fields: NO_FIELDS,
-    }
+    let mut line = NO_LINE;
+    line.kind = REP;
+    line.next = a;
+    line
 }
 
 fn form_out(x: Words) -> LineData
@@ -284,14 +272,12 @@ fn form_out(x: Words) -> LineData
     }
     if fit(target, LOCS) {
         if fits(fields, LOCS) {
-            return LineData {
-                kind: OUT,
-                next,
-                other: NO_NUMBER,
-                sandbox: NO_NUMBER,
-                target,
-                fields,
-            };
+            let mut line = NO_LINE;
+            line.kind = OUT;
+            line.next = next;
+            line.target = target;
+            line.fields = fields;
+            return line;
         }
     }
     NO_LINE
@@ -312,14 +298,12 @@ fn form_get(x: Words, kind: u8) -> LineData
     }
     if fit(target, LOCS) {
         if fits(fields, SLOTS) {
-            return LineData {
-                kind,
-                next,
-                other: NO_NUMBER,
-                sandbox: NO_NUMBER,
-                target,
-                fields,
-            };
+            let mut line = NO_LINE;
+            line.kind = kind;
+            line.next = next;
+            line.target = target;
+            line.fields = fields;
+            return line;
         }
     }
     NO_LINE
@@ -347,14 +331,13 @@ fn form_eval(x: Words) -> LineData
         return NO_LINE;
     }
     if fit(target, LOCS) {
-        return LineData {
-            kind: EVAL,
-            next,
-            other,
-            sandbox,
-            target,
-            fields: NO_FIELDS,
-        };
+        let mut line = NO_LINE;
+        line.kind = EVAL;
+        line.next = next;
+        line.other = other;
+        line.sandbox = sandbox;
+        line.target = target;
+        return line;
     }
     NO_LINE
 }
@@ -375,14 +358,11 @@ fn form_accept(x: Words) -> LineData
     if NO_NUMBER <= sandbox {
         return NO_LINE;
     }
-    LineData {
-        kind: ACCEPT,
-        next,
-        other: NO_NUMBER,
-        sandbox,
-        target: NO_NAME,
-        fields: NO_FIELDS,
-    }
+    let mut line = NO_LINE;
+    line.kind = ACCEPT;
+    line.next = next;
+    line.sandbox = sandbox;
+    line
 }
 
 fn form_line(x: Words) -> LineData
