@@ -8,7 +8,7 @@ use mathlib.Core.Option.{none, some}
 use Prim.Native.Nat.{ℕ, _<_}
 use native.Mathlib.Omega.{arith}
 use lib.Dec.{eqb, ltb}
-use borrow.Author.Tests.{ltb-true, leb-true}
+use borrow.Author.Tests.{lt-ltb, ltb-true, leb-true}
 use Rattle.sets.specs.Lists.{_&_, either, only, _∪_}
 use Rattle.sets.proofs.Lists.{and-l, and-r, eqb-eq}
 use Rattle.klaim.specs.Rows.{given, groupN, groupR, groupD, groupT, groupL, groupQ, groupB, groupA, groupE, rowLine}
@@ -77,6 +77,11 @@ parts h =
 pub view-none : (r : RowData) → r .group ≡ 0 → rowView r ≡ none
 unfolding rowView given
 view-none r e = rw e
+
+-- a row of any group
+pub view-some : (r : RowData) → (r .group ≡ 0 → ⊥) → rowView r ≡ some (rowData r)
+unfolding rowView given
+view-some r h = rw (lt-ltb 0 (r .group) (omega arith))
 
 view-plain : (r : RowData) → ltb 0 (r .group) ≡ true → r .line .kind ≡ 0 → rowView r ≡ some (plainRow r)
 unfolding rowView rowData given
