@@ -1,0 +1,33 @@
+use borrow.Author.Needs.{needs}
+use Rattle.text.proofs.Names.{named-is}
+use Rattle.text.proofs.named.Statement.{statement}
+use Rattle.text.proofs.named.Tie as tie
+
+binder-requires : tie.Need-binder-requires
+binder-requires c κs = search needs
+
+site-requires : tie.Need-site-requires
+site-requires c κs = search needs
+
+is-self-requires : tie.Need-is-self-requires
+is-self-requires c κs = search needs
+
+variable-requires : tie.Need-variable-requires
+variable-requires c κs = search needs
+
+pick-name-requires : tie.Need-pick-name-requires
+pick-name-requires c κs = search needs
+
+returns : tie.Need-returns
+returns c = named-is _ _ _ _ _ (c .before .before .before .before .binder .ensures) (c .before .before .before .site .ensures) (c .before .before .is-self .ensures) (c .before .variable .ensures) (c .pick-name .ensures)
+
+pub named-spec : {M : Type 1} → statement M
+named-spec =
+    tie.close
+    (tie.spec
+    binder-requires
+    site-requires
+    is-self-requires
+    variable-requires
+    pick-name-requires
+    returns)

@@ -1,0 +1,370 @@
+//! Bytes cut into rows and fields, and what a field says.
+ghost use mathlib.Core.Path.{_≡_};
+ghost use mathlib.Core.Bool.{true};
+ghost use mathlib.Core.List.{[], _∷_};
+ghost use Prim.Native.Nat.{_+_, _<_, _≤_};
+ghost use lib.ListN.{length, set};
+ghost use Rattle.sets.specs.Lists.{same as sameBytes, among};
+ghost use Rattle.klaim.specs.Rows.{split, comma, newline, at, number as numberField, lettered as letteredField, siteField, varField, isSelf, bindField, rightOf, rightsField};
+ghost use Rattle.text.specs.Pieces.{endOf, edgeLimit, Cut};
+ghost use Rattle.text.specs.Fields.{numberOf, shapeOf, digitsField, rightsOf, bits, binderOf, pickName, Named, letterOf, wordOf};
+
+const NEWLINE: u8 = 10;
+
+const COMMA: u8 = 44;
+
+// No row form has more than 9 fields: where each begins, and one past the end of the last.
+pub const EDGES: usize = 10;
+
+// Where the piece that begins at `from` ends: at the next separator, or at the end of the bytes.
+fn piece_end(s: &[u8], from: usize, separator: u8) -> usize
+    ensures { λ r. ⌜ r ≡ endOf separator (now (s .entry)) from ⌝ }
+{
+    let mut i = from;
+    while i < s.len() {
+        if s[i] == separator {
+            return i;
+        }
+        i += 1;
+    }
+    i
+}
+
+// Where the row that begins at `from` ends.
+pub fn row_end(s: &[u8], from: usize) -> usize
+    ensures { λ r. ⌜ r ≡ endOf newline (now (s .entry)) from ⌝ }
+{
+    piece_end(s, from, NEWLINE)
+}
+
+// Keeps edge k, where it is one that a field of a row form needs.
+fn keep(edges: &mut [usize; EDGES], k: usize, edge: usize)
+    requires { ⌜ length (now edges) ≡ edgeLimit ⌝ }
+    ensures { λ r. ⌜ now (edges .exit) ≡ set (now (edges .entry)) k edge ⌝ }
+{
+    if k < EDGES {
+        edges[k] = edge;
+    }
+}
+
+// The number of fields of a row, and the edges of the first 9.
+pub fn cuts(row: &[u8], edges: &mut [usize; EDGES]) -> usize
+    requires { ⌜ length (now edges) ≡ edgeLimit ⌝ }
+    ensures { λ r. ⌜ Cut (now (row .entry)) (now (edges .exit)) r ⌝ }
+{
+    let mut n = 0;
+    let mut from = 0;
+    keep(edges, 0, 0);
+    while from <= row.len() {
+        from = piece_end(row, from, COMMA) + 1;
+        n += 1;
+        keep(edges, n, from);
+    }
+    n
+}
+
+// Field k of a row that was cut, empty where the row has none.
+pub fn field<'a, 'b>(row: &'a [u8], edges: &'b [usize; EDGES], n: usize, k: usize) -> &'a [u8]
+    requires { ⌜ Cut (now row) (now edges) n ⌝ }
+    requires { ⌜ k + 1 < edgeLimit ⌝ }
+    ensures { λ r. ⌜ now r ≡ at (split comma (now (row .entry))) k ⌝ }
+{
+    if n <= k {
+        return &row[..0];
+    }
+    let start = edges[k];
+    let end = edges[k + 1] - 1;
+    &row[start..end]
+}
+
+// Whether two slices hold the same bytes.
+pub fn same(a: &[u8], b: &[u8]) -> bool
+    ensures { λ r. ⌜ r ≡ sameBytes (now (a .entry)) (now (b .entry)) ⌝ }
+{
+    if a.len() != b.len() {
+        return false;
+    }
+    let mut i = 0;
+    while i < a.len() {
+        if a[i] != b[i] {
+            return false;
+        }
+        i += 1;
+    }
+    true
+}
+
+// Stands for no number.
+pub const NO_NUMBER: u16 = 1000;
+
+const MOST_DIGITS: usize = 3;
+
+// One to three bytes, the first of several no zero.
+fn shaped(f: &[u8]) -> bool
+    ensures { λ r. ⌜ r ≡ shapeOf (now (f .entry)) ⌝ }
+{
+    if f.len() == 0 {
+        return false;
+    }
+    if f.len() == 1 {
+        return true;
+    }
+    if f.len() <= MOST_DIGITS {
+        return f[0] != b'0';
+    }
+    false
+}
+
+// Up to three digits.
+fn digits(f: &[u8]) -> u16
+    requires { ⌜ length (now f) ≤ 3 ⌝ }
+    ensures { λ r. ⌜ numberOf r ≡ digitsField (now (f .entry)) ⌝ }
+{
+    let mut n: u16 = 0;
+    let mut i = 0;
+    while i < f.len() {
+        let b = f[i];
+        if b < b'0' {
+            return NO_NUMBER;
+        }
+        if b'9' < b {
+            return NO_NUMBER;
+        }
+        n = 10 * n + (b - b'0') as u16;
+        i += 1;
+    }
+    n
+}
+
+pub fn number(f: &[u8]) -> u16
+    ensures { λ r. ⌜ numberOf r ≡ numberField (now (f .entry)) ⌝ }
+{
+    if shaped(f) {
+        return digits(f);
+    }
+    NO_NUMBER
+}
+
+// A letter and a number.
+pub fn lettered(f: &[u8], letter: u8) -> u16
+    ensures { λ r. ⌜ numberOf r ≡ letteredField letter (now (f .entry)) ⌝ }
+{
+    if 0 < f.len() {
+        if f[0] == letter {
+            return number(&f[1..]);
+        }
+    }
+    NO_NUMBER
+}
+
+pub fn site(f: &[u8]) -> u16
+    ensures { λ r. ⌜ numberOf r ≡ siteField (now (f .entry)) ⌝ }
+{
+    lettered(f, b's')
+}
+
+pub fn variable(f: &[u8]) -> u16
+    ensures { λ r. ⌜ numberOf r ≡ varField (now (f .entry)) ⌝ }
+{
+    lettered(f, b'u')
+}
+
+pub fn is_self(f: &[u8]) -> bool
+    ensures { λ r. ⌜ r ≡ isSelf (now (f .entry)) ⌝ }
+{
+    same(f, b"self")
+}
+
+// The variable of `!u`.
+pub fn binder(f: &[u8]) -> u16
+    ensures { λ r. ⌜ binderOf r ≡ bindField (now (f .entry)) ⌝ }
+{
+    if 0 < f.len() {
+        if f[0] == b'!' {
+            return variable(&f[1..]);
+        }
+    }
+    NO_NUMBER
+}
+
+// The right of a letter, 0 for any other byte.
+fn right(b: u8) -> u8
+    ensures { λ r. ⌜ (rightsOf r ≡ rightOf b) × (among bits r ≡ true) ⌝ }
+{
+    match b {
+        b'o' => 1,
+        b'i' => 2,
+        b'r' => 4,
+        b'e' => 8,
+        b'a' => 16,
+        _ => 0,
+    }
+}
+
+// The rights of a field, 0 where it is not of their form.
+pub fn rights(f: &[u8]) -> u8
+    ensures { λ r. ⌜ rightsOf r ≡ rightsField (now (f .entry)) ⌝ }
+{
+    let mut sum: u8 = 0;
+    let mut last: u8 = 0;
+    let mut i = 0;
+    while i < f.len() {
+        let next = right(f[i]);
+        if next <= last {
+            return 0;
+        }
+        sum += next;
+        last = next;
+        i += 1;
+    }
+    sum
+}
+
+// What a target or a field names.
+pub struct Name {
+    pub kind: u8,
+    pub number: u16,
+}
+
+pub const NOTHING: u8 = 0;
+
+pub const SITE: u8 = 1;
+
+pub const SELF: u8 = 2;
+
+pub const VARIABLE: u8 = 3;
+
+pub const BINDER: u8 = 4;
+
+fn pick_name(binder: u16, site: u16, here: bool, variable: u16) -> Name
+    ensures { λ r. ⌜ r ≡ pickName binder site here variable ⌝ }
+{
+    if binder < NO_NUMBER {
+        return Name {
+            kind: BINDER,
+            number: binder,
+        };
+    }
+    if site < NO_NUMBER {
+        return Name {
+            kind: SITE,
+            number: site,
+        };
+    }
+    if here {
+        return Name {
+            kind: SELF,
+            number: 0,
+        };
+    }
+    if variable < NO_NUMBER {
+        return Name {
+            kind: VARIABLE,
+            number: variable,
+        };
+    }
+    Name {
+        kind: NOTHING,
+        number: 0,
+    }
+}
+
+pub fn named(f: &[u8]) -> Name
+    ensures { λ r. ⌜ Named (now (f .entry)) r ⌝ }
+{
+    pick_name(binder(f), site(f), is_self(f), variable(f))
+}
+
+// The groups of rows.
+pub const GROUP_N: u8 = 1;
+
+pub const GROUP_R: u8 = 2;
+
+pub const GROUP_D: u8 = 3;
+
+pub const GROUP_T: u8 = 4;
+
+pub const GROUP_L: u8 = 5;
+
+pub const GROUP_Q: u8 = 6;
+
+pub const GROUP_B: u8 = 7;
+
+pub const GROUP_A: u8 = 8;
+
+pub const GROUP_E: u8 = 9;
+
+fn letter_byte(b: u8) -> u8
+    ensures { λ r. ⌜ r ≡ letterOf (b ∷ []) ⌝ }
+{
+    match b {
+        b'N' => GROUP_N,
+        b'R' => GROUP_R,
+        b'D' => GROUP_D,
+        b'T' => GROUP_T,
+        b'L' => GROUP_L,
+        b'Q' => GROUP_Q,
+        b'B' => GROUP_B,
+        b'A' => GROUP_A,
+        b'E' => GROUP_E,
+        _ => 0,
+    }
+}
+
+// The group of a row's letter, 0 for any other field.
+pub fn letter(f: &[u8]) -> u8
+    ensures { λ r. ⌜ r ≡ letterOf (now (f .entry)) ⌝ }
+{
+    if f.len() == 1 {
+        return letter_byte(f[0]);
+    }
+    0
+}
+
+// The kinds of process lines.
+pub const NIL: u8 = 1;
+
+pub const PAR: u8 = 2;
+
+pub const REP: u8 = 3;
+
+pub const OUT: u8 = 4;
+
+pub const IN: u8 = 5;
+
+pub const READ: u8 = 6;
+
+pub const EVAL: u8 = 7;
+
+pub const ACCEPT: u8 = 8;
+
+// The kind of a process line by its word, 0 for any other field.
+pub fn word(f: &[u8]) -> u8
+    ensures { λ r. ⌜ r ≡ wordOf (now (f .entry)) ⌝ }
+{
+    if same(f, b"nil") {
+        return NIL;
+    }
+    if same(f, b"par") {
+        return PAR;
+    }
+    if same(f, b"rep") {
+        return REP;
+    }
+    if same(f, b"out") {
+        return OUT;
+    }
+    if same(f, b"in") {
+        return IN;
+    }
+    if same(f, b"read") {
+        return READ;
+    }
+    if same(f, b"eval") {
+        return EVAL;
+    }
+    if same(f, b"accept") {
+        return ACCEPT;
+    }
+    0
+}
