@@ -1,6 +1,5 @@
 //! The report, and whether a process adds nothing to one.
 ghost use mathlib.Core.Path.{_≡_};
-ghost use mathlib.Core.Bool.{true};
 ghost use Prim.Native.Nat.{_<_, _/_, _%_};
 ghost use lib.Dec.{eqb};
 ghost use lib.ListN.{length, getD};
