@@ -1,17 +1,17 @@
 -- Bounds of the counts: how many rights are reported, held and used at most.
 -- Assumes nothing.
-use mathlib.Core.Path.{_≡_}
+use mathlib.Core.Path.{_≡_, ap}
 use mathlib.Core.Bool.{Bool, true, false}
 use mathlib.Core.List.{List}
 use Prim.Native.Nat.{ℕ, _+_, _^_, _≤_}
 use native.Mathlib.Omega.{arith}
-use lib.ListN.{length}
-use Rattle.sets.specs.Lists.{_&_, only, keep, below}
+use lib.ListN.{length, getD}
+use Rattle.sets.specs.Lists.{_&_, only, keep, sum, below, table}
 use Rattle.sets.specs.Bits.{has, meet, size}
 use Rattle.sets.proofs.Lists.{length-union}
-use Rattle.sets.proofs.Tables.{length-table}
+use Rattle.sets.proofs.Tables.{length-table, getD-table}
 use Rattle.sets.proofs.Bits.{has-and}
-use Rattle.sets.proofs.Runs.{sum-most, sum-within}
+use Rattle.sets.proofs.Runs.{sum-most, sum-within, sum-same}
 use Rattle.klaim.specs.Net.{Net, home}
 use Rattle.klaim.specs.Reader.{World}
 use Rattle.klaim.specs.Listing.{reported, homeCount, usable, usedCount}
@@ -54,3 +54,10 @@ held-most N s = omega (arith, sum-most (λ t. size (home N s t)) 5 (λ t. size-m
 pub used-most : (w : World) (s : ℕ) → usedCount w s ≤ homeCount (w .net) s
 unfolding usedCount homeCount
 used-most w s = sum-within (λ t. size (meet (home (w .net) s t) (usable w s t))) (λ t. size (home (w .net) s t)) (λ t. size-meet (home (w .net) s t) (usable w s t)) (below 32)
+
+-- the rights used, counted from a table of the usable ones
+pub used-table : (w : World) (s : ℕ) → sum (λ t. size (meet (home (w .net) s t) (getD (table 32 (usable w s)) t 0))) (below 32) ≡ usedCount w s
+unfolding usedCount
+used-table w s =
+    sum-same (λ t. size (meet (home (w .net) s t) (getD (table 32 (usable w s)) t 0))) (λ t. size (meet (home (w .net) s t) (usable w s t))) 32
+    (λ t h. ap (λ (u : ℕ). size (meet (home (w .net) s t) u)) (getD-table 32 (usable w s) t 0 h))

@@ -3,12 +3,15 @@
 use mathlib.Core.Path.{_≡_, refl, ap, _∙_}
 use mathlib.Core.List.{List, [], _∷_}
 use Prim.Native.Nat.{ℕ, _+_, _<_, _≤_}
+use Prim.Native.Char.{code}
 use Prim.Native.String.{String}
 use native.Mathlib.Omega.{arith}
 use lib.ListN.{length}
 use Rattle.sets.proofs.Lists.{length-union}
 use Rattle.klaim.specs.Rows.{text}
-use Rattle.klaim.specs.Listing.{numeral, siteName, letters, tail, row}
+use Rattle.klaim.specs.Reader.{refused, World}
+use Rattle.klaim.specs.Analysis.{brokenT, brokenQ}
+use Rattle.klaim.specs.Listing.{numeral, siteName, letters, tail, row, listRead, listVerdict}
 use Rattle.writer.proofs.Numeral.{numeral-short}
 use Rattle.writer.proofs.Letters.{letters-short, site-short}
 
@@ -35,13 +38,9 @@ pub refused-short : (n r : ℕ) → n < 100 → r < 100000 → length (row "refu
 unfolding text
 refused-short n r h k = omega (arith, length-row "refused" (numeral n ∷ numeral r ∷ []), numeral-short 1 n h, numeral-short 4 r k)
 
-pub broken-tuple-short : (n : ℕ) → n < 1000 → length (row "broken" (text "T" ∷ numeral n ∷ [])) ≤ 13
+pub broken-short : (k n : ℕ) → n < 1000 → length (row "broken" ((k ∷ []) ∷ numeral n ∷ [])) ≤ 13
 unfolding text
-broken-tuple-short n h = omega (arith, length-row "broken" (text "T" ∷ numeral n ∷ []), numeral-short 2 n h)
-
-pub broken-line-short : (n : ℕ) → n < 1000 → length (row "broken" (text "Q" ∷ numeral n ∷ [])) ≤ 13
-unfolding text
-broken-line-short n h = omega (arith, length-row "broken" (text "Q" ∷ numeral n ∷ []), numeral-short 2 n h)
+broken-short k n h = omega (arith, length-row "broken" ((k ∷ []) ∷ numeral n ∷ []), numeral-short 2 n h)
 
 pub v-short : (s t m : ℕ) → s < 32 → t < 32 → length (row "V" (siteName s ∷ siteName t ∷ letters m ∷ [])) ≤ 16
 unfolding text
@@ -50,3 +49,16 @@ v-short s t m h k = omega (arith, length-row "V" (siteName s ∷ siteName t ∷ 
 pub u-short : (s p q r : ℕ) → s < 32 → p < 1000 → q < 1000 → r < 10000 → length (row "U" (siteName s ∷ numeral p ∷ numeral q ∷ numeral r ∷ [])) ≤ 19
 unfolding text
 u-short s p q r h i j k = omega (arith, length-row "U" (siteName s ∷ numeral p ∷ numeral q ∷ numeral r ∷ []), site-short s h, numeral-short 2 p i, numeral-short 2 q j, numeral-short 3 r k)
+
+-- the one row of a refusal, and of a broken rule
+pub refused-list : (n r : ℕ) → row "refused" (numeral n ∷ numeral r ∷ []) ≡ listRead (refused n r)
+unfolding listRead
+refused-list n r = refl
+
+pub broken-tuple-list : (w : World) (i : ℕ) → row "broken" ((code "T" ∷ []) ∷ numeral i ∷ []) ≡ listVerdict w (brokenT i)
+unfolding listVerdict text
+broken-tuple-list w i = refl
+
+pub broken-line-list : (w : World) (q : ℕ) → row "broken" ((code "Q" ∷ []) ∷ numeral q ∷ []) ≡ listVerdict w (brokenQ q)
+unfolding listVerdict text
+broken-line-list w q = refl

@@ -2,7 +2,6 @@
 ghost use mathlib.Core.List.{[], _∷_};
 ghost use Prim.Native.Nat.{_+_, _≤_};
 ghost use lib.ListN.{length};
-ghost use Rattle.klaim.specs.Rows.{text};
 ghost use Rattle.klaim.specs.Listing.{numeral, siteName, letters, row};
 ghost use Rattle.writer.specs.Wrote.{Wrote, field};
 use writer::put_byte;
@@ -59,24 +58,15 @@ pub fn put_refused(out: &mut [u8], at: usize, number: u32, line: u32) -> usize
     put_byte(out, c, b'\n')
 }
 
-// `broken`, and the tuple.
-pub fn put_broken_tuple(out: &mut [u8], at: usize, tuple: u32) -> usize
-    requires { ⌜ at + length (row "broken" (text "T" ∷ numeral tuple ∷ [])) ≤ length (now out) ⌝ }
-    ensures { λ r. ⌜ Wrote (now (out .entry)) (now (out .exit)) at (row "broken" (text "T" ∷ numeral tuple ∷ [])) r ⌝ }
+// `broken`, the kind (T or Q), and the number counted from 0.
+pub fn put_broken(out: &mut [u8], at: usize, kind: u8, number: u32) -> usize
+    requires { ⌜ at + length (row "broken" ((kind ∷ []) ∷ numeral number ∷ [])) ≤ length (now out) ⌝ }
+    ensures { λ r. ⌜ Wrote (now (out .entry)) (now (out .exit)) at (row "broken" ((kind ∷ []) ∷ numeral number ∷ [])) r ⌝ }
 {
-    let a = put_text(out, at, b"broken,T");
-    let b = number_field(out, a, tuple);
-    put_byte(out, b, b'\n')
-}
-
-// `broken`, and the process line.
-pub fn put_broken_line(out: &mut [u8], at: usize, line: u32) -> usize
-    requires { ⌜ at + length (row "broken" (text "Q" ∷ numeral line ∷ [])) ≤ length (now out) ⌝ }
-    ensures { λ r. ⌜ Wrote (now (out .entry)) (now (out .exit)) at (row "broken" (text "Q" ∷ numeral line ∷ [])) r ⌝ }
-{
-    let a = put_text(out, at, b"broken,Q");
-    let b = number_field(out, a, line);
-    put_byte(out, b, b'\n')
+    let a = put_text(out, at, b"broken,");
+    let b = put_byte(out, a, kind);
+    let c = number_field(out, b, number);
+    put_byte(out, c, b'\n')
 }
 
 // A row V: subject, object, rights.

@@ -1,7 +1,7 @@
 -- Laws of what a loop gathers in order: a union or a sum with one part more at its end.
 -- Assumes nothing.
 use mathlib.Core.Path.{_≡_, refl, sym, ap, _∙_, subst}
-use mathlib.Core.Bool.{Bool, true, false}
+use mathlib.Core.Bool.{Bool}
 use mathlib.Core.List.{List, [], _∷_, _++_}
 use Prim.Native.Nat.{ℕ, zero, suc, _+_, _*_, _<_, _≤_}
 use native.Mathlib.Omega.{arith}
@@ -76,6 +76,13 @@ concat-same f g zero e = refl
 concat-same {B} f g (suc n) e =
     subst (λ (m : ℕ). concat f (below m) ≡ concat g (below m)) (add-one n)
     (concat-below f n ∙ ap (λ (l : List B). l ∪ f n) (concat-same f g n (λ s h. e s (omega arith))) ∙ ap (λ (l : List B). concat g (below n) ∪ l) (e n (omega arith)) ∙ sym (concat-below g n))
+
+pub sum-same : (f g : ℕ → ℕ) (n : ℕ) → ((s : ℕ) → s < n → f s ≡ g s) → sum f (below n) ≡ sum g (below n)
+unfolding sum below table tableFrom
+sum-same f g zero e = refl
+sum-same f g (suc n) e =
+    let h = sum-same f g n (λ s h. e s (omega arith)) in
+    subst (λ (m : ℕ). sum f (below m) ≡ sum g (below m)) (add-one n) (sum-below f n ∙ rw (h, e n (omega arith)) (sym (sum-below g n)))
 
 module _ {A : Type 0} where
   -- sums of terms that are at most k, and of terms that are no greater

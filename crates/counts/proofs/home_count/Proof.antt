@@ -13,6 +13,7 @@ use Rattle.counts.proofs.Size.{counted-most, counted}
 use Rattle.counts.proofs.home_count.Statement.{statement}
 use Rattle.counts.proofs.home_count.Tie as tie
 
+-- the rights towards the sites below t are counted, at most five each
 abbrev Inv-loop : tie.InvT-loop
 Inv-loop homes s first count₀ t₀ count t = (t ≤ 32) × (count ≤ 5 * t) × (count ≡ sum (λ u. size (getD homes (first + u) 0)) (below t))
 

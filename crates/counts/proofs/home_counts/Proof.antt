@@ -9,6 +9,7 @@ use Rattle.klaim.specs.Listing.{homeCount}
 use Rattle.counts.proofs.home_counts.Statement.{statement}
 use Rattle.counts.proofs.home_counts.Tie as tie
 
+-- the counts of the sites below s are stored
 abbrev Inv-loop : tie.InvT-loop
 Inv-loop homes held₀ s₀ held s = (s ≤ 32) × ((N : Net) → N .homes ≡ homes → Filled 0 (homeCount N) (replicate 32 0) held s)
 

@@ -12,6 +12,7 @@ use Rattle.counts.proofs.Size.{counted-most, counted-list}
 use Rattle.counts.proofs.reported.Statement.{statement}
 use Rattle.counts.proofs.reported.Tie as tie
 
+-- the rights of the first i bytes are counted, at most five each
 abbrev Inv-loop : tie.InvT-loop
 Inv-loop report count₀ i₀ count i = (i ≤ 1024) × (count ≤ 5 * i) × (count ≡ sum size (take i report))
 

@@ -12,6 +12,7 @@ use Rattle.counts.proofs.Size.{counted-most, counted}
 use Rattle.counts.proofs.used_count.Statement.{statement}
 use Rattle.counts.proofs.used_count.Tie as tie
 
+-- the usable rights towards the sites below t are counted, at most five each
 abbrev Inv-loop : tie.InvT-loop
 Inv-loop homes s usable first count₀ t₀ count t = (t ≤ 32) × (count ≤ 5 * t) × (count ≡ sum (λ u. size (meet (getD homes (first + u) 0) (getD usable u 0))) (below t))
 

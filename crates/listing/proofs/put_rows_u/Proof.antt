@@ -11,6 +11,7 @@ use Rattle.listing.proofs.Lines.{lines-none, lines-more, line-short}
 use Rattle.listing.proofs.put_rows_u.Statement.{statement}
 use Rattle.listing.proofs.put_rows_u.Tie as tie
 
+-- the U rows of the sites below s are written, at most 19 bytes each
 abbrev Inv-loop : tie.InvT-loop
 Inv-loop out₀ at held used n next₀ s₀ out next s = (s ≤ n) × (next ≤ at + 19 * s) × Wrote out₀ out at (linesU held used s) next
 

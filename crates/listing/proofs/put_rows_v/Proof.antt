@@ -10,6 +10,7 @@ use Rattle.listing.proofs.Lines.{rowsTo, rows-none, rows-more, rows-all
 use Rattle.listing.proofs.put_rows_v.Statement.{statement}
 use Rattle.listing.proofs.put_rows_v.Tie as tie
 
+-- the V rows of the first i bytes are written, at most 16 bytes each
 abbrev Inv-loop : tie.InvT-loop
 Inv-loop out₀ at report next₀ i₀ out next i = (i ≤ 1024) × (next ≤ at + 16 * i) × Wrote out₀ out at (rowsTo report i) next
 

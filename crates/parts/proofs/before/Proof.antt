@@ -6,6 +6,7 @@ use Rattle.parts.proofs.Parts.{Searched, searched-none, searched-more, 
 use Rattle.parts.proofs.before.Statement.{statement}
 use Rattle.parts.proofs.before.Tie as tie
 
+-- no row `.` stands before place i
 abbrev Inv-loop : tie.InvT-loop
 Inv-loop input i₀ i = Searched input i
 

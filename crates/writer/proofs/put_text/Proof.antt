@@ -10,6 +10,7 @@ use Rattle.writer.proofs.Wrote.{wrote-none, wrote-long, wrote-more, wro
 use Rattle.writer.proofs.put_text.Statement.{statement}
 use Rattle.writer.proofs.put_text.Tie as tie
 
+-- the first i bytes of the text are written
 abbrev Inv-loop : tie.InvT-loop
 Inv-loop out₀ at text i₀ out i = (i ≤ length text) × Wrote out₀ out at (take i text) (at + i)
 
