@@ -30,11 +30,6 @@ rowAs group size boxes vars sites lines rights = record { group = group; size = 
 abbrev pub numbers : Four → List ℕ
 numbers f = map (λ (m : Name). m .number) (names f)
 
-pub union-none : (xs : List ℕ) → xs ∪ [] ≡ xs
-unfolding _∪_
-union-none [] = refl
-union-none (x ∷ xs) = ap (λ (ys : List ℕ). x ∷ ys) (union-none xs)
-
 -- the forms of a row of m fields
 module _ (fs : List (List ℕ)) (m : ℕ) (M : m ≡ length fs) where
   pub n-by : (n : ℕ) → numberOf n ≡ number (at fs 1) → rowN fs ≡ given (eqb m 2) (given (below n) (some (rowAs groupN n [] [] [] [] 0)))

@@ -18,7 +18,8 @@ use Rattle.lines.specs.declared.Four.{Four}
 use Rattle.lines.specs.Lines.{names, fitAll, present, nameFits, fieldsFit, lineOf, lineShape, lineGood}
 use Rattle.forms.specs.declared.RowData.{RowData}
 use Rattle.forms.specs.Forms.{listed, plainRow, rowData, rowView, pairGroup, tupleGroup, plainShape, plainGood, rowGood}
-use Rattle.forms.proofs.RowForms.{rowAs, numbers, union-none, pair-case, tuple-case, pair-some, tuple-some}
+use Rattle.sets.proofs.Runs.{union-none}
+use Rattle.forms.proofs.RowForms.{rowAs, numbers, pair-case, tuple-case, pair-some, tuple-some}
 
 -- one part of what stands in a row
 there : (n : ℕ) → present true n ≡ true → listed n ≡ n ∷ []

@@ -14,7 +14,7 @@ use borrow.Author.Tests.{eq-eqb, ne-eqb}
 use Rattle.sets.specs.Lists.{Elem, All, done, more, _&_, all, any, only, keep, table, same, _∪_}
 use Rattle.sets.specs.Bits.{join, grant, joins}
 use Rattle.sets.proofs.Lists.{and-l, and-r, and-i, leb-le, le-leb, keep-snoc, map-append, all-append, all-one, all-last, iff}
-use Rattle.sets.proofs.Bits.{join-none-l, join-none-r, join-assoc}
+use Rattle.sets.proofs.Joins.{join-none-r, joins-snoc}
 use Rattle.sets.proofs.Tables.{length-table, getD-table}
 use Rattle.klaim.specs.Rows.{Row}
 use Rattle.klaim.specs.Reader.{ofGroup, gather, inOrder}
@@ -32,12 +32,6 @@ unfolding ofGroup only
 group-own g above r e =
     keep-snoc (λ r. eqb (r .group) g) above r
     ∙ ap (λ (b : Bool). keep (λ r. eqb (r .group) g) above ++ only b r) e
-
--- the union over a list with one element more
-joins-snoc : {A : Type 0} (f : A → ℕ) (xs : List A) (x : A) → joins f (xs ++ (x ∷ [])) ≡ join (joins f xs) (f x)
-unfolding joins
-joins-snoc f [] x = join-none-r (f x) ∙ sym (join-none-l (f x))
-joins-snoc f (y ∷ ys) x = ap (join (f y)) (joins-snoc f ys x) ∙ join-assoc (f y) (joins f ys) (f x)
 
 -- a table of sets, with one row more
 module _ (n : ℕ) (place value : Row → ℕ) (rows : List Row) (r : Row) where

@@ -14,7 +14,7 @@ use Rattle.sets.specs.Lists.{Elem, All, done, more, _&_, imp, all, any, only, k
 use Rattle.sets.specs.Bits.{mem, sites}
 use Rattle.sets.proofs.Lists.{iff, and-i, and-l, and-r, among-in, any-i, eq-eqb, eqb-eq, keep-snoc}
 use Rattle.sets.proofs.Counting.{Unlike}
-use Rattle.sets.proofs.Tables.{length-table, getD-table}
+use Rattle.sets.proofs.Tables.{length-table, getD-table, table-snoc}
 use Rattle.sets.proofs.Bits.{sites-in, in-sites}
 use Rattle.klaim.specs.Invariant.{distinct}
 use Rattle.klaim.specs.Analysis.{choices}
@@ -76,15 +76,6 @@ unfolding fits
 fits-end xss row j h l = rw (drop-of-length-le xss h, drop-of-length-le row l)
 
 -- one more element of a table that is kept or not
-table-from-snoc : {A : Type 0} (n i : ℕ) (f : ℕ → A) → tableFrom (suc n) i f ≡ tableFrom n i f ++ (f (i + n) ∷ [])
-unfolding tableFrom
-table-from-snoc {A} zero i f = ap (λ (k : ℕ). f k ∷ []) (omega arith)
-table-from-snoc {A} (suc n) i f = ap (λ (l : List A). f i ∷ l) (table-from-snoc n (suc i) f ∙ ap (λ (k : ℕ). tableFrom n (suc i) f ++ (f k ∷ [])) (omega arith))
-
-pub table-snoc : {A : Type 0} (n : ℕ) (f : ℕ → A) → table (suc n) f ≡ table n f ++ (f n ∷ [])
-unfolding table
-table-snoc {A} n f = table-from-snoc n 0 f ∙ ap (λ (k : ℕ). tableFrom n 0 f ++ (f k ∷ [])) (omega arith)
-
 only-long : {A : Type 0} (b : Bool) (x : A) → length (only b x) ≡ cond b 1 0
 unfolding only
 only-long true x = refl

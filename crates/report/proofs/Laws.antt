@@ -25,7 +25,7 @@ use Rattle.flow.proofs.Laws.{at-table}
 use Rattle.report.specs.declared.Evals.{Evals}
 use Rattle.report.specs.declared.Evals.the-variants.{Nothing, Both, Next, Sends}
 use Rattle.report.specs.Evals.{evalsOf}
-use Rattle.report.proofs.Joins.{join-assoc}
+use Rattle.sets.proofs.Joins.{join-assoc}
 
 -- a test that fails below n
 pub not-all : (f : ℕ → Bool) (n k : ℕ) → k < n → f k ≡ false → all f (below n) ≡ false

@@ -23,7 +23,7 @@ use Rattle.flow.proofs.Sites.{some-site}
 use Rattle.report.specs.declared.Evals.{Evals}
 use Rattle.report.specs.declared.Evals.the-variants.{Nothing, Both, Next, Sends}
 use Rattle.report.specs.Evals.{evalsOf, nowhere}
-use Rattle.report.proofs.Joins.{join-none, join-zero}
+use Rattle.sets.proofs.Joins.{join-none, join-zero}
 use Rattle.report.proofs.Laws.{less-at, addsBy, adds-at}
 
 module _ (f : ℕ → ℕ → ℕ) where

@@ -6,29 +6,13 @@ use native.Mathlib.Omega.{arith}
 use native.Mathlib.Nat.{add-zero}
 use Rattle.sets.specs.Lists.{Elem, first, later, table, tableFrom}
 use Rattle.sets.proofs.Lists.{All-in}
-use Rattle.sets.proofs.Tables.{length-table}
+use Rattle.sets.proofs.Tables.{length-table, table-in}
 use Rattle.klaim.proofs.Reader.{RootOk, NetOk}
 use Rattle.tables.specs.declared.Net.{Net}
 use Rattle.tables.specs.declared.Estimate.{Estimate}
 use Rattle.tables.specs.View.{rootAt, rootsView, netView, estimateView}
 use Rattle.tables.proofs.Lines.{length-view}
 use Rattle.report.specs.Given.{Rooted, Given}
-
-from-in : {A : Type 0} (n i : ℕ) (f : ℕ → A) (k : ℕ) → k < n → Elem (f (i + k)) (tableFrom n i f)
-unfolding tableFrom
-from-in zero i f k h = absurd (omega arith)
-from-in (suc n) i f zero h = first (ap f (add-zero i))
-from-in (suc n) i f (suc k) h = later (subst (λ (j : ℕ). Elem (f j) (tableFrom n (suc i) f)) step (from-in n (suc i) f k (omega arith)))
-  where
-    step : suc i + k ≡ i + suc k
-    step = omega arith
-
-table-in : {A : Type 0} (n : ℕ) (f : ℕ → A) (k : ℕ) → k < n → Elem (f k) (table n f)
-unfolding table
-table-in n f k h = subst (λ (j : ℕ). Elem (f j) (tableFrom n 0 f)) step (from-in n 0 f k h)
-  where
-    step : 0 + k ≡ k
-    step = omega arith
 
 pub given : (N : Net) (E : Estimate) → Given (netView N) (estimateView E) (N .homes) (N .boxes) (N .nlines) (N .lines) (E .binds)
 unfolding netView estimateView

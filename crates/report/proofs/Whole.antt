@@ -19,7 +19,7 @@ use Rattle.tables.specs.View.{linesView, rootAt, rootsView}
 use Rattle.flow.proofs.Sites.{mem-single}
 use Rattle.flow.proofs.Laws.{at-table}
 use Rattle.report.specs.Given.{aRoot, Given}
-use Rattle.report.proofs.Joins.{join-assoc, join-comm, join-none, joins-last}
+use Rattle.sets.proofs.Joins.{join-assoc, join-comm, join-none, joins-last}
 
 module _ (N : Net) (E : Estimate) where
   own-home : (site s t x : ℕ) → grant (eqb site s) (less x (home N site t)) ≡ grant (eqb site s) (less x (home N s t))

@@ -24,10 +24,6 @@ use Rattle.tables.specs.View.{fieldBytes, locOf, slotOf, LowSlot}
 use Rattle.matching.proofs.Laws.{among-low}
 use Rattle.rules.specs.Masks.{anySite, wanted, allowed}
 
-pub fields-four : (bs : List ℕ) (q : ℕ) → q < 256 → length bs ≡ 2560 → length (fieldBytes bs q) ≡ 4
-unfolding fieldBytes
-fields-four bs q h e = omega (arith, length-take 4 (drop (10 * q + 6) bs), length-drop (10 * q + 6) bs)
-
 -- one more set is stored
 pub sets-more : (F : ℕ → ℕ) (x : ℕ) (fs r : List ℕ) (j v : ℕ) → length fs ≡ 4 → length r ≡ 5 → j < 4 → take (j + 1) r ≡ x ∷ map F (take j fs) → v ≡ F (getD fs j 0) → take (j + 1 + 1) (set r (j + 1) v) ≡ x ∷ map F (take (j + 1) fs)
 sets-more F x fs r j v four five low e w =

@@ -11,6 +11,7 @@ use lib.ListN.{length, take, getD}
 use lib.Seq.{take-suc}
 use Rattle.sets.specs.Lists.{_∪_, only, keep, sum, concat, below, table, tableFrom}
 use Rattle.sets.proofs.Lists.{keep-snoc}
+use Rattle.sets.proofs.Tables.{table-snoc}
 
 module _ {A : Type 0} where
   pub union-none : (xs : List A) → xs ∪ [] ≡ xs
@@ -35,18 +36,9 @@ module _ {A : Type 0} where
   pub sum-take : (f : A → ℕ) (xs : List A) (i : ℕ) (d : A) → i < length xs → sum f (take (i + 1) xs) ≡ sum f (take i xs) + f (getD xs i d)
   sum-take f xs i d h = ap (λ (n : ℕ). sum f (take n xs)) (add-one i) ∙ ap (sum f) (take-suc xs i d h) ∙ sum-snoc f (take i xs) (getD xs i d)
 
-  from-snoc : (n i : ℕ) (f : ℕ → A) → tableFrom (suc n) i f ≡ tableFrom n i f ++ (f (i + n) ∷ [])
-  unfolding tableFrom
-  from-snoc zero i f = rw add-zero
-  from-snoc (suc n) i f =
-      let e : suc i + n ≡ i + suc n = omega arith in
-      ap (λ (l : List A). f i ∷ l) (from-snoc n (suc i) f ∙ ap (λ (k : ℕ). tableFrom n (suc i) f ++ (f k ∷ [])) e)
-
 pub below-snoc : (n : ℕ) → below (n + 1) ≡ below n ++ (n ∷ [])
-unfolding below table
-below-snoc n =
-    let e : 0 + n ≡ n = omega arith in
-    ap (λ (k : ℕ). tableFrom k 0 (λ i. i)) (add-one n) ∙ from-snoc n 0 (λ i. i) ∙ ap (λ (k : ℕ). tableFrom n 0 (λ i. i) ++ (k ∷ [])) e
+unfolding below
+below-snoc n = ap (λ (k : ℕ). table k (λ i. i)) (add-one n) ∙ table-snoc n (λ i. i)
 
 pub sum-below : (f : ℕ → ℕ) (n : ℕ) → sum f (below (n + 1)) ≡ sum f (below n) + f n
 sum-below f n = ap (sum f) (below-snoc n) ∙ sum-snoc f (below n) n

@@ -1,9 +1,9 @@
 -- Laws of tables, and of a loop that fills an array with one.
 -- Assumes nothing.
-use mathlib.Core.Path.{_≡_, refl, sym, ap, _∙_}
+use mathlib.Core.Path.{_≡_, refl, sym, ap, subst, _∙_}
 use mathlib.Core.Bool.{Bool, true, false}
 use mathlib.Core.Logic.{_⊎_, inl, inr}
-use mathlib.Core.List.{List, [], _∷_}
+use mathlib.Core.List.{List, [], _∷_, _++_}
 use Prim.Native.Nat.{ℕ, zero, suc, _+_, _<_, _≤_}
 use native.Mathlib.Omega.{arith}
 use native.Mathlib.Decide.{ℕ-discrete}
@@ -65,25 +65,43 @@ module _ {A : Type 0} where
       go : (k : ℕ) → k < n → getD (table n f) k d ≡ getD (table n g) k d
       go k h = getD-table n f k d h ∙ e k h ∙ sym (getD-table n g k d h)
 
--- the numbers below n
-from-in : (n i s : ℕ) → i ≤ s → s < i + n → Elem s (tableFrom n i (λ k. k))
+-- one element more at the end
+from-snoc : {A : Type 0} (n i : ℕ) (f : ℕ → A) → tableFrom (suc n) i f ≡ tableFrom n i f ++ (f (i + n) ∷ [])
 unfolding tableFrom
-from-in zero i s p q = absurd (omega arith)
-from-in (suc n) i s p q = go (ℕ-discrete s i) (λ h. from-in n (suc i) s h (omega arith))
+from-snoc {A} zero i f = ap (λ (k : ℕ). f k ∷ []) (omega arith)
+from-snoc {A} (suc n) i f = ap (λ (l : List A). f i ∷ l) (from-snoc n (suc i) f ∙ ap (λ (k : ℕ). tableFrom n (suc i) f ++ (f k ∷ [])) (omega arith))
+
+pub table-snoc : {A : Type 0} (n : ℕ) (f : ℕ → A) → table (suc n) f ≡ table n f ++ (f n ∷ [])
+unfolding table
+table-snoc {A} n f = from-snoc n 0 f ∙ ap (λ (k : ℕ). tableFrom n 0 f ++ (f k ∷ [])) (omega arith)
+
+-- what stands in a table
+from-in : {A : Type 0} (n i : ℕ) (f : ℕ → A) (k : ℕ) → k < n → Elem (f (i + k)) (tableFrom n i f)
+unfolding tableFrom
+from-in zero i f k h = absurd (omega arith)
+from-in (suc n) i f zero h = first (ap f (add-zero i))
+from-in (suc n) i f (suc k) h = later (subst (λ (j : ℕ). Elem (f j) (tableFrom n (suc i) f)) step (from-in n (suc i) f k (omega arith)))
   where
-    go : Dec (s ≡ i) → (suc i ≤ s → Elem s (tableFrom n (suc i) (λ k. k))) → Elem s (i ∷ tableFrom n (suc i) (λ k. k))
-    go (yes e) ih = first e
-    go (no e) ih = later (ih (omega arith))
+    step : suc i + k ≡ i + suc k
+    step = omega arith
+
+pub table-in : {A : Type 0} (n : ℕ) (f : ℕ → A) (k : ℕ) → k < n → Elem (f k) (table n f)
+unfolding table
+table-in n f k h = subst (λ (j : ℕ). Elem (f j) (tableFrom n 0 f)) step (from-in n 0 f k h)
+  where
+    step : 0 + k ≡ k
+    step = omega arith
+
+-- the numbers below n
+pub below-in : (n s : ℕ) → s < n → Elem s (below n)
+unfolding below
+below-in n s h = table-in n (λ i. i) s h
 
 in-from : (n i s : ℕ) → Elem s (tableFrom n i (λ k. k)) → s < i + n
 unfolding tableFrom
 in-from zero i s h = absurd (in-none h)
 in-from (suc n) i s (first e) = omega arith
 in-from (suc n) i s (later h) = omega (arith, in-from n (suc i) s h)
-
-pub below-in : (n s : ℕ) → s < n → Elem s (below n)
-unfolding below table
-below-in n s h = from-in n 0 s (omega arith) (omega arith)
 
 pub in-below : (n s : ℕ) → Elem s (below n) → s < n
 unfolding below table

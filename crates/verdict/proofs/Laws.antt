@@ -6,7 +6,6 @@ use mathlib.Core.List.{List, [], _∷_, _++_, map}
 use mathlib.Core.Option.{Option, none, some, Option·map}
 use Prim.Native.Nat.{ℕ, zero, suc, _+_, _*_, _-_, _<_, _≤_, _^_, min}
 use native.Mathlib.Omega.{arith}
-use native.Mathlib.Decide.{ℕ-discrete}
 use borrow.Author.Tests.{eq-eqb, ne-eqb}
 use lib.Dec.{eqb}
 use lib.ListN.{length, getD, take, drop, set, length-take, drop-of-length-le}
@@ -93,14 +92,6 @@ module _ {A : Type 0} (f : A → Bool) where
     table-none i h e =
         rw (eq-eqb i n e)
         (sym (first-none (table n g) (g 0) (λ k q. let l : k < n = omega (arith, length-table n g) in ap f (getD-table n g k (g 0) l) ∙ h k (omega arith))))
-
--- one more place passes
-pub below-more : (P : ℕ → Type 0) (i k : ℕ) → suc i ≡ k → ((j : ℕ) → j < i → P j) → P i → (j : ℕ) → j < k → P j
-below-more P i k e h p j l = go (ℕ-discrete j i)
-  where
-    go : Dec (j ≡ i) → P j
-    go (yes q) = subst P (sym q) p
-    go (no q) = h j (omega arith)
 
 -- the least over the roots, from root i on
 module _ {A : Type 0} (F : A → List ℕ) (n : ℕ) (g : ℕ → A) where

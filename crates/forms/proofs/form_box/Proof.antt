@@ -3,7 +3,8 @@ use Rattle.sets.specs.Lists.{_&_, either, only}
 use Rattle.text.specs.Fields.{upTo}
 use Rattle.lines.specs.Lines.{names, present, nameFits, fieldsFit, lineShape}
 use Rattle.forms.specs.Forms.{rowView, rowData, plainRow, listed, pairGroup, tupleGroup, plainShape, plainGood, rowGood}
-use Rattle.forms.proofs.RowForms.{box-by, union-none}
+use Rattle.sets.proofs.Runs.{union-none}
+use Rattle.forms.proofs.RowForms.{box-by}
 use native.Mathlib.Omega.{arith}
 use borrow.Author.Needs.{needs}
 use borrow.Author.Tests.{eq-eqb, ne-eqb, lt-ltb, le-ltb}

@@ -7,7 +7,8 @@ use Rattle.klaim.specs.Net.{Estimate}
 use Rattle.klaim.specs.Analysis.{reach}
 use Rattle.tables.specs.View.{fieldBytes, locOf}
 use borrow.Author.Needs.{needs}
-use Rattle.rules.proofs.Sets.{fields-four, sets-more, sets-done, wanted-target}
+use Rattle.tables.proofs.Lines.{length-fields}
+use Rattle.rules.proofs.Sets.{sets-more, sets-done, wanted-target}
 use Rattle.rules.proofs.out_sets.Statement.{statement}
 use Rattle.rules.proofs.out_sets.Tie as tie
 use Rattle.rules.proofs.out_sets.Reads as reads
@@ -80,7 +81,7 @@ loop-again c =
       at .inv .2,
       search needs,
       λ E e.
-          sets-more (λ c. reach E (s .args .places) (locOf c)) _ (fieldBytes (s .args .lines .now) (s .args .q)) (at .r) (at .j) _ (fields-four (s .args .lines .now) (s .args .q) (search needs) (at .inv .2)) (at .inv .3) (omega arith) (at .inv .4 E e)
+          sets-more (λ c. reach E (s .args .places) (locOf c)) _ (fieldBytes (s .args .lines .now) (s .args .q)) (at .r) (at .j) _ (length-fields (s .args .lines .now) (s .args .q) (omega (arith, at .inv .2))) (at .inv .3) (omega arith) (at .inv .4 E e)
           (c .reach2 .ensures E e ∙ ap (reach E (s .args .places)) (c .before .loc-of .ensures .0 ∙ ap locOf (c .before .before .field-at .ensures))),
     )
 

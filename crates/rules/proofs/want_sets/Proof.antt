@@ -7,7 +7,8 @@ use Rattle.klaim.specs.Net.{Estimate}
 use Rattle.tables.specs.View.{fieldBytes, slotOf}
 use Rattle.rules.specs.Masks.{wanted}
 use borrow.Author.Needs.{needs}
-use Rattle.rules.proofs.Sets.{fields-four, sets-more, sets-done, wanted-target}
+use Rattle.tables.proofs.Lines.{length-fields}
+use Rattle.rules.proofs.Sets.{sets-more, sets-done, wanted-target}
 use Rattle.rules.proofs.want_sets.Statement.{statement}
 use Rattle.rules.proofs.want_sets.Tie as tie
 use Rattle.rules.proofs.want_sets.Reads as reads
@@ -81,7 +82,7 @@ loop-again c =
       at .inv .2,
       search needs,
       λ E e.
-          sets-more (λ c. wanted E (s .args .places) (slotOf c)) _ (fieldBytes (s .args .lines .now) (s .args .q)) (at .r) (at .j) _ (fields-four (s .args .lines .now) (s .args .q) (search needs) (at .inv .2)) (at .inv .3) (omega arith) (at .inv .4 E e)
+          sets-more (λ c. wanted E (s .args .places) (slotOf c)) _ (fieldBytes (s .args .lines .now) (s .args .q)) (at .r) (at .j) _ (length-fields (s .args .lines .now) (s .args .q) (omega (arith, at .inv .2))) (at .inv .3) (omega arith) (at .inv .4 E e)
           (c .wanted .ensures E e ∙ ap (wanted E (s .args .places)) (c .before .slot-of .ensures .0 ∙ ap slotOf (c .before .before .field-at .ensures))),
     )
 

@@ -7,7 +7,8 @@ use Rattle.sets.specs.Lists.{any, all, same, table}
 use Rattle.sets.proofs.Tables.{table-all}
 use Rattle.klaim.specs.Invariant.{allBelow}
 use Rattle.tables.specs.View.{rowAt, rowsView}
-use Rattle.verdict.proofs.Laws.{table-at, table-none, below-more}
+use Rattle.verdict.proofs.Laws.{table-at, table-none}
+use borrow.Author.Count.{below-more}
 use borrow.Author.Needs.{needs}
 use Rattle.verdict.proofs.first_missing.Statement.{statement}
 use Rattle.verdict.proofs.first_missing.Tie as tie
@@ -49,8 +50,7 @@ loop-again : tie.Need-loop-again Inv-loop μ-loop
 loop-again c =
     let at = c .before .before .before .loop in
     let ar = c .before .before .before .before .args in
-    let e : suc (at .i) ≡ at .i + 1 = omega arith in
-    (omega arith, below-more (λ k. has (ar .n) (ar .rows .now) (rowAt (ar .tuples .now) k) ≡ true) (at .i) (at .i + 1) e (at .inv .1) (sym (c .before .row-stands .ensures) ∙ c .if1 .taken))
+    (omega arith, below-more (λ k. has (ar .n) (ar .rows .now) (rowAt (ar .tuples .now) k) ≡ true) (at .i) (at .inv .1) (sym (c .before .row-stands .ensures) ∙ c .if1 .taken))
 
 -- src/lib.rt:58:13
 returns : tie.Need-returns Inv-loop μ-loop
