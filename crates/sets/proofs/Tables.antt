@@ -4,13 +4,13 @@ use mathlib.Core.Path.{_≡_, refl, sym, ap, subst, _∙_}
 use mathlib.Core.Bool.{Bool, true, false}
 use mathlib.Core.Logic.{_⊎_, inl, inr}
 use mathlib.Core.List.{List, [], _∷_, _++_}
-use Prim.Native.Nat.{ℕ, zero, suc, _+_, _<_, _≤_}
+use Prim.Native.Nat.{ℕ, zero, suc, _+_, _-_, _<_, _≤_}
 use native.Mathlib.Omega.{arith}
 use native.Mathlib.Decide.{ℕ-discrete}
 use native.Mathlib.Nat.{add-zero}
 use lib.Dec.{eqb}
-use lib.ListN.{length, getD, set, length-set, replicate}
-use lib.Seq.{getD-set-same, getD-set-other, ext-getD}
+use lib.ListN.{length, getD, drop, set, length-set, replicate}
+use lib.Seq.{drop-cons, getD-set-same, getD-set-other, ext-getD}
 use Rattle.sets.specs.Lists.{Elem, first, later, _&_, all, table, tableFrom, below}
 use Rattle.sets.proofs.Lists.{in-none, and-l, and-r, and-i, all-at}
 
@@ -117,3 +117,13 @@ from-all f (suc n) i g t (suc k) h = ap (λ (j : ℕ). f (g j)) (omega arith) �
 pub table-all : {A : Type 0} (f : A → Bool) (n : ℕ) (g : ℕ → A) → all f (table n g) ≡ true → (k : ℕ) → k < n → f (g k) ≡ true
 unfolding table
 table-all f n g t k h = ap (λ (j : ℕ). f (g j)) (omega arith) ∙ from-all f n 0 g t k h
+
+-- a table from place i - 1 on
+pub table-drop : {A : Type 0} (n : ℕ) (g : ℕ → A) (i : ℕ) → 0 < i → i ≤ n → drop (i - 1) (table n g) ≡ g (i - 1) ∷ drop i (table n g)
+table-drop {A} n g i p l =
+    drop-cons (table n g) (i - 1) (g (i - 1)) (omega (arith, length-table n g))
+    ∙ ap (λ (x : A). x ∷ drop (suc (i - 1)) (table n g)) (getD-table n g (i - 1) (g (i - 1)) (omega arith))
+    ∙ ap (λ (k : ℕ). g (i - 1) ∷ drop k (table n g)) back
+  where
+    back : suc (i - 1) ≡ i
+    back = omega arith

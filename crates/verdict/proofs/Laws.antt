@@ -13,7 +13,7 @@ use lib.Seq.{take-suc, take-suc-set, take-all, drop-cons}
 use Rattle.sets.specs.Lists.{Elem, All, done, more, _&_, all, any, same, only, keep, below, tableFrom, table, concat, _∪_}
 use Rattle.sets.specs.Bits.{has, mem, sites}
 use Rattle.sets.proofs.Lists.{and-l, and-r, all-at, ltb-lt, map-append, same-eq, All-union, All-turn}
-use Rattle.sets.proofs.Tables.{below-in, getD-table, length-table}
+use Rattle.sets.proofs.Tables.{below-in, getD-table, length-table, table-drop}
 use Rattle.klaim.specs.Process.{Line, tree}
 use Rattle.klaim.specs.Net.{Root, Net, Estimate}
 use Rattle.klaim.specs.Analysis.{choices, firstNot, least, stands, broken, placeSet, process, Verdict, accepted, brokenT, brokenQ, brokenTuple, brokenLine, verdictOf, verdict}
@@ -101,16 +101,7 @@ module _ {A : Type 0} (F : A → List ℕ) (n : ℕ) (g : ℕ → A) where
 
   pub least-down : (i : ℕ) → 0 < i → i ≤ n → min (lowest (F (g (i - 1)))) (lowest (concat F (drop i (table n g)))) ≡ lowest (concat F (drop (i - 1) (table n g)))
   unfolding concat
-  least-down i p l = sym (lowest-both (F (g (i - 1))) (concat F (drop i (table n g)))) ∙ sym (ap (λ (xs : List A). lowest (concat F xs)) here)
-    where
-      back : suc (i - 1) ≡ i
-      back = omega arith
-
-      here : drop (i - 1) (table n g) ≡ g (i - 1) ∷ drop i (table n g)
-      here =
-          drop-cons (table n g) (i - 1) (g (i - 1)) (omega (arith, length-table n g))
-          ∙ ap (λ (x : A). x ∷ drop (suc (i - 1)) (table n g)) (getD-table n g (i - 1) (g (i - 1)) (omega arith))
-          ∙ ap (λ (k : ℕ). g (i - 1) ∷ drop k (table n g)) back
+  least-down i p l = sym (lowest-both (F (g (i - 1))) (concat F (drop i (table n g)))) ∙ sym (ap (λ (xs : List A). lowest (concat F xs)) (table-drop n g i p l))
 
 -- the broken lines of a root
 pub root-broken : (N : Net) (E : Estimate) (rs bs : List ℕ) (n i : ℕ) → N .lines ≡ linesView n bs → broken N E (2 ^ getD rs (2 * i) 0) (tree (linesView n bs) (getD rs (2 * i + 1) 0)) ≡ broken N E (placeSet (rootAt rs i .site)) (process N (rootAt rs i))
