@@ -10,7 +10,7 @@ use lib.ListN.{length, getD, take, drop, set, length-take, length-drop}
 use lib.Seq.{take-suc, take-suc-set}
 use Rattle.sets.specs.Lists.{Elem, first, later, _&_, imp, all, any, tableFrom, table, below, same, among}
 use Rattle.sets.specs.Bits.{has, mem, sites}
-use Rattle.sets.proofs.Lists.{and-l, and-r, all-at, ltb-lt, map-append}
+use Rattle.sets.proofs.Lists.{and-l, and-r, all-at, all-same, ltb-lt, map-append}
 use Rattle.sets.proofs.Tables.{below-in}
 use Rattle.klaim.specs.declared.Var.{Var}
 use Rattle.klaim.specs.declared.Loc.{Loc}
@@ -115,11 +115,6 @@ module _ (E : Estimate) (P : ℕ) where
   unfolding imp
   imp-same {a = true} e h = ap₂ imp e (h refl)
   imp-same {a = false} {d = d} e h = ap (λ (x : Bool). imp x d) e
-
-  all-same : {A : Type 0} (f g : A → Bool) (xs : List A) → ((x : A) → Elem x xs → f x ≡ g x) → all f xs ≡ all g xs
-  unfolding all
-  all-same f g [] h = refl
-  all-same f g (x ∷ xs) h = ap₂ _&_ (h x (first refl)) (all-same f g xs (λ y i. h y (later i)))
 
   slot-sets : (F : Slot → ℕ) (cs : List ℕ) → map F (map slotOf cs) ≡ map (λ c. F (slotOf c)) cs
   slot-sets F [] = refl

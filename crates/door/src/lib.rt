@@ -1,0 +1,57 @@
+//! The door: whether an arrival passes at a site under a sandbox.
+ghost use mathlib.Core.Path.{_≡_};
+ghost use Prim.Native.Nat.{ℕ, _<_, _≤_};
+ghost use lib.ListN.{length, getD};
+ghost use Rattle.sets.specs.Lists.{all, below};
+ghost use Rattle.sets.specs.Bits.{within as isWithin};
+ghost use Rattle.klaim.specs.Process.{tree};
+ghost use Rattle.klaim.specs.Net.{Net, Estimate, boxAt};
+ghost use Rattle.klaim.specs.Report.{door as doorOf};
+ghost use Rattle.tables.specs.View.{linesView, rowsView, InForm};
+ghost use Rattle.rules.specs.Masks.{Sized};
+use flow::UseMap;
+
+// Whether a use map lies within sandbox d evaluated at site l.
+fn uses_within(m: UseMap, boxes: &[u8; 1056], d: u8, l: u8) -> bool
+    requires { ⌜ d < 32 ⌝ }
+    ensures { λ r. ⌜ ((N : Net) → N .boxes ≡ now (boxes .entry) → r ≡ all (λ t. isWithin (getD (m .rights) t 0) (boxAt N d l t)) (below 32)) ⌝ }
+{
+    let rights = m.rights;
+    let mut ok = true;
+    let mut t: u8 = 32;
+    while 0 < t {
+        t -= 1;
+        let at = t as usize;
+        ok = rules::both(rules::within(rights[at], flow::box_at(boxes, d, l, t)), ok);
+    }
+    ok
+}
+
+// The door for the arrival whose root is line q, at site l under sandbox d: all rules hold for its lines with place set l,
+// its use map lies within d evaluated at l, and none of its eval lines adds anything to a report.
+pub fn passes(
+    lines: &[u8; 2560],
+    n: usize,
+    boxes: &[u8; 1056],
+    binds: &[u32; 32],
+    hold: &[u8; 1024],
+    rows: &[u8; 1536],
+    count: usize,
+    d: u8,
+    l: u8,
+    q: u8,
+) -> bool
+    requires { ⌜ InForm n (now lines) q × (n ≤ 256) × (length (now lines) ≡ 2560) × Sized count (now rows) × (d < 32) × (l < 32) ⌝ }
+    ensures { λ r. ⌜ ((N : Net) (E : Estimate) → N .boxes ≡ now (boxes .entry) → E .binds ≡ now (binds .entry) → E .hold ≡ now (hold .entry) → E .stand ≡ rowsView count (now (rows .entry)) → r ≡ doorOf N E d l (tree (linesView n (now (lines .entry))) q)) ⌝ }
+{
+    let places = sets::single(l);
+    let first = broken::first_broken(lines, n, boxes, binds, hold, rows, count, places, q);
+    if first != broken::NONE {
+        return false;
+    }
+    let uses = flow::use_map(lines, n, boxes, binds, places, q);
+    if uses_within(uses, boxes, d, l) {
+        return report::adds_nothing(lines, n, boxes, binds, places, q);
+    }
+    false
+}
