@@ -1,18 +1,17 @@
 -- Laws of a thread's bindings and of the list of threads.
 -- Assumes nothing.
-use mathlib.Core.Path.{_≡_, refl, sym, ap, ap₂, _∙_}
+use mathlib.Core.Path.{_≡_, refl, sym, ap, _∙_}
 use mathlib.Core.Bool.{Bool, true, false, cond}
 use mathlib.Core.List.{List, [], _∷_, _++_, map}
 use mathlib.Core.Option.{Option, none, some, Option·getD}
-use Prim.Native.Nat.{ℕ, zero, suc, _+_, _-_, _*_, _^_, _<_, _≤_}
+use Prim.Native.Nat.{ℕ, suc, _+_, _-_, _*_, _^_, _<_, _≤_}
 use native.Mathlib.Omega.{arith}
 use native.Mathlib.Decide.{ℕ-discrete}
 use native.Mathlib.Numerals.{add-one}
 use borrow.Author.Tests.{ne-eqb}
-use lib.Dec.{eqb}
-use lib.ListN.{length, getD, set, take, length-set, length-map}
+use lib.ListN.{length, getD, set, take, length-set}
 use lib.Seq.{getD-set-same, getD-set-other, ext-getD, take-suc-set, take-set-lt, length-take-le}
-use Rattle.sets.specs.Lists.{either, splice, table, _&_}
+use Rattle.sets.specs.Lists.{either, splice, _&_}
 use Rattle.sets.specs.Bits.{has, mem, join}
 use Rattle.sets.proofs.Lists.{eq-eqb, or-r, map-append}
 use Rattle.sets.proofs.Tables.{getD-table, length-table, Filled}

@@ -1,8 +1,8 @@
 //! Threads of an engine's state, by value: their bindings, their policies, and the list of them.
 ghost use mathlib.Core.Path.{_≡_};
-ghost use mathlib.Core.List.{List, _++_, _∷_, []};
+ghost use mathlib.Core.List.{_++_, _∷_, []};
 ghost use mathlib.Core.Option.{none, some, Option·getD};
-ghost use Prim.Native.Nat.{ℕ, _+_, _-_, _<_, _≤_};
+ghost use Prim.Native.Nat.{_+_, _-_, _<_, _≤_};
 ghost use lib.ListN.{getD, set};
 ghost use Rattle.sets.specs.Lists.{splice};
 ghost use Rattle.sets.specs.Bits.{has};
