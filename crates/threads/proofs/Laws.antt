@@ -9,8 +9,8 @@ use native.Mathlib.Omega.{arith}
 use native.Mathlib.Decide.{ℕ-discrete}
 use native.Mathlib.Numerals.{add-one}
 use borrow.Author.Tests.{ne-eqb}
-use lib.ListN.{length, getD, set, take, length-set}
-use lib.Seq.{getD-set-same, getD-set-other, ext-getD, take-suc-set, take-set-lt, length-take-le}
+use lib.ListN.{length, getD, getElem?, set, take, length-set, length-map}
+use lib.Seq.{getD-set-same, getD-set-other, ext-getD, take-suc-set, take-set-lt, length-take-le, getD-take}
 use Rattle.sets.specs.Lists.{either, splice, _&_}
 use Rattle.sets.specs.Bits.{has, mem, join}
 use Rattle.sets.proofs.Lists.{eq-eqb, or-r, map-append}
@@ -26,7 +26,7 @@ use Rattle.klaim.specs.Engine.{value, permits}
 use Rattle.flow.proofs.Sites.{mem-single}
 use Rattle.threads.specs.declared.Thread.{Thread}
 use Rattle.threads.specs.View.{noSite, noThread, binding, bindingsView, threadView, threadsView}
-use Rattle.threads.proofs.Splice.{splice-set, map-splice, moved-all}
+use Rattle.threads.proofs.Splice.{get-some, get-none, map-some, splice-set, map-splice, moved-all}
 
 pub bindings-long : (b : ℕ) (ss : List Site) → length (bindingsView b ss) ≡ 32
 unfolding bindingsView
@@ -84,7 +84,20 @@ module _ (b : ℕ) (ss : List Site) (u : ℕ) (s : Site) (low : u < 32) (long : 
       (bindings-long (join b (2 ^ u)) (set ss u s) ∙ sym (length-set (bindingsView b ss) u (some (s .0)) ∙ bindings-long b ss))
       (λ v h. let k : v < 32 = omega (arith, bindings-long (join b (2 ^ u)) (set ss u s)) in bindings-at (join b (2 ^ u)) (set ss u s) v k ∙ same-binding v (ℕ-discrete v u) k)
 
--- the list of threads
+-- the list of threads: how many, and the one at place k
+pub threads-long : (n : ℕ) (items : List Thread) → n ≤ length items → length (threadsView n items) ≡ n
+unfolding threadsView
+threads-long n items h = length-map (take n items) threadView ∙ length-take-le n items h
+
+pub thread-some : (n : ℕ) (items : List Thread) (k : ℕ) → k < n → n ≤ length items → getElem? (threadsView n items) k ≡ some (threadView (getD items k noThread))
+unfolding threadsView
+thread-some n items k h l =
+    map-some threadView (take n items) k (get-some noThread (take n items) k (omega (arith, length-take-le n items l)) ∙ ap (λ (t : Thread). some t) (getD-take n items k noThread h))
+
+pub thread-none : (n : ℕ) (items : List Thread) (k : ℕ) → n ≤ k → n ≤ length items → getElem? (threadsView n items) k ≡ none
+thread-none n items k h l = get-none (threadsView n items) k (omega (arith, threads-long n items l))
+
+-- the list with a thread more, or another
 module _ (items : List Thread) (n : ℕ) (th : Thread) where
   pub push-view : n < length items → threadsView (n + 1) (set items n th) ≡ threadsView n items ++ (threadView th ∷ [])
   unfolding threadsView

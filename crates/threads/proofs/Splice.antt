@@ -2,9 +2,10 @@
 -- Assumes nothing.
 use mathlib.Core.Path.{_≡_, refl, sym, ap, _∙_}
 use mathlib.Core.List.{List, [], _∷_, map}
+use mathlib.Core.Option.{Option, none, some}
 use Prim.Native.Nat.{ℕ, zero, suc, _-_, _<_, _≤_}
 use native.Mathlib.Omega.{arith}
-use lib.ListN.{length, getD, set, take}
+use lib.ListN.{length, getD, getElem?, set, take}
 use lib.Seq.{getD-take, ext-getD, length-take-le}
 use Rattle.sets.specs.Lists.{splice}
 use Rattle.sets.proofs.Lists.{map-append}
@@ -61,7 +62,28 @@ module _ {A : Type 0} where
       ∙ take-splice k n l₀ hk
       ∙ ap (λ (j : ℕ). splice k [] (take j l₀)) e
 
+  -- the element at a place, if there is one
+  pub get-some : (d : A) (l : List A) (k : ℕ) → k < length l → getElem? l k ≡ some (getD l k d)
+  get-some d [] k h = absurd (omega arith)
+  get-some d (x ∷ l) zero h = refl
+  get-some d (x ∷ l) (suc k) h = get-some d l k (omega arith)
+
+  pub get-none : (l : List A) (k : ℕ) → length l ≤ k → getElem? l k ≡ none
+  get-none [] k h = refl
+  get-none (x ∷ l) zero h = absurd (omega arith)
+  get-none (x ∷ l) (suc k) h = get-none l k (omega arith)
+
 module _ {A B : Type 0} where
+  pub map-some : (f : A → B) (l : List A) (k : ℕ) {x : A} → getElem? l k ≡ some x → getElem? (map f l) k ≡ some (f x)
+  map-some f [] k e = absurd (no-none e)
+    where
+      no-none : {x : A} → none ≡ some x → ⊥
+      no-none q = let z : _≡_ {A = ℕ} 0 1 = cc in omega arith
+  map-some f (y ∷ l) zero {x} e =
+      let q : y ≡ x = cc in
+      rw q
+  map-some f (y ∷ l) (suc k) e = map-some f l k e
+
   pub map-splice : (f : A → B) (k : ℕ) (ys l : List A) → map f (splice k ys l) ≡ splice k (map f ys) (map f l)
   unfolding splice
   map-splice f k ys [] = refl

@@ -82,16 +82,26 @@ pub slots-long : (bs : List ℕ) (q k : ℕ) → 10 * q + 10 ≤ length bs → k
 slots-long bs q k h few = length-map (take k (fieldBytes bs q)) slotOf ∙ length-first bs q k h few
 
 -- a template of k fields, of line q, and tuple m of k + 1 sites
-module _ (bs rows : List ℕ) (q k m : ℕ) (low : m < 256) (few : k ≤ 4) (here : 10 * q + 10 ≤ length bs) (long : length rows ≡ 1536) (same-long : length (rowAt rows m) ≡ suc k) where
+pub record Held (bs rows : List ℕ) (q k m : ℕ) : Type 0 where
+  pub low : m < 256
+  pub few : k ≤ 4
+  pub here : 10 * q + 10 ≤ length bs
+  pub long : length rows ≡ 1536
+  pub same-long : length (rowAt rows m) ≡ suc k
+
+pub held : {bs rows : List ℕ} {q k m : ℕ} → m < 256 → k ≤ 4 → q < 256 → length bs ≡ 2560 → length rows ≡ 1536 → length (rowAt rows m) ≡ suc k → Held bs rows q k m
+held low few h e long same-long = record { low = low; few = few; here = omega arith; long = long; same-long = same-long }
+
+module _ {bs rows : List ℕ} {q k m : ℕ} (w : Held bs rows q k m) where
   slots-from : (j : ℕ) → j < k → drop j (Slots bs q k) ≡ slotOf (getD (fieldBytes bs q) j 0) ∷ drop (suc j) (Slots bs q k)
   slots-from j h =
-      drop-cons (Slots bs q k) j (slotOf 0) (omega (arith, slots-long bs q k here few))
-      ∙ ap (λ (s : Slot). s ∷ drop (suc j) (Slots bs q k)) (field-is slotOf (slotOf 0) bs q k j here few h)
+      drop-cons (Slots bs q k) j (slotOf 0) (omega (arith, slots-long bs q k (w .here) (w .few)))
+      ∙ ap (λ (s : Slot). s ∷ drop (suc j) (Slots bs q k)) (field-is slotOf (slotOf 0) bs q k j (w .here) (w .few) h)
 
   row-from : (j : ℕ) → j < suc k → drop j (rowAt rows m) ≡ getD rows (6 * m + 1 + j) 0 ∷ drop (suc j) (rowAt rows m)
   row-from j h =
-      drop-cons (rowAt rows m) j 0 (omega (arith, same-long))
-      ∙ ap (λ (v : ℕ). v ∷ drop (suc j) (rowAt rows m)) (row-get rows m j low long (omega (arith, same-long)))
+      drop-cons (rowAt rows m) j 0 (omega (arith, w .same-long))
+      ∙ ap (λ (v : ℕ). v ∷ drop (suc j) (rowAt rows m)) (row-get rows m j (w .low) (w .long) (omega (arith, w .same-long)))
 
   pub bind-from : (j : ℕ) (e : Bindings) (i at : ℕ) → j < k → suc j ≡ i → 6 * m + 1 + suc j ≡ at → bindAll (drop j (Slots bs q k)) (drop (suc j) (rowAt rows m)) e ≡ bindAll (drop i (Slots bs q k)) (drop (suc i) (rowAt rows m)) (bindSlot (slotOf (getD (fieldBytes bs q) j 0)) (getD rows at 0) e)
   bind-from j e i at h p r =
@@ -106,7 +116,7 @@ module _ (bs rows : List ℕ) (q k m : ℕ) (low : m < 256) (few : k ≤ 4) (her
 
   pub bind-end : (j : ℕ) (e : Bindings) (vs : List ℕ) → k ≤ j → bindAll (drop j (Slots bs q k)) vs e ≡ e
   unfolding bindAll
-  bind-end j e vs h = ap (λ (ss : List Slot). bindAll ss vs e) (drop-of-length-le (Slots bs q k) {i = j} (omega (arith, slots-long bs q k here few)))
+  bind-end j e vs h = ap (λ (ss : List Slot). bindAll ss vs e) (drop-of-length-le (Slots bs q k) {i = j} (omega (arith, slots-long bs q k (w .here) (w .few))))
 
   -- `matches` from place j on
   module _ (f : Loc → ℕ → Bool) where
@@ -127,8 +137,8 @@ module _ (bs rows : List ℕ) (q k m : ℕ) (low : m < 256) (few : k ≤ 4) (her
     unfolding matches
     match-end j h =
         ap₂ (λ (ss : List Slot) (vs : List ℕ). matches f ss vs)
-        (drop-of-length-le (Slots bs q k) {i = j} (omega (arith, slots-long bs q k here few)))
-        (drop-of-length-le (rowAt rows m) {i = suc j} (omega (arith, same-long)))
+        (drop-of-length-le (Slots bs q k) {i = j} (omega (arith, slots-long bs q k (w .here) (w .few))))
+        (drop-of-length-le (rowAt rows m) {i = suc j} (omega (arith, w .same-long)))
 
   -- as the engine tests it
   module _ (th : Thread) (g : Loc) where

@@ -2,17 +2,18 @@
 -- Assumes nothing.
 use mathlib.Core.Path.{_≡_, refl, sym, ap, ap₂, _∙_}
 use mathlib.Core.List.{List, [], _∷_, _++_}
+use mathlib.Core.Option.{none, some}
 use Prim.Native.Nat.{ℕ, suc, _+_, _*_, _-_, _<_, _≤_}
 use native.Mathlib.Omega.{arith}
 use native.Mathlib.Decide.{ℕ-discrete, decLt}
 use native.Mathlib.Numerals.{add-one}
-use lib.ListN.{length, getD, set, take, drop, length-take, length-drop, length-set}
+use lib.ListN.{length, getD, getElem?, set, take, drop, length-take, length-drop, length-set}
 use lib.Seq.{getD-take, getD-drop, getD-set-same, getD-set-other, ext-getD}
 use Rattle.sets.specs.Lists.{splice, table}
 use Rattle.sets.proofs.Tables.{getD-table, length-table, same-table}
 use Rattle.tables.specs.View.{rowAt, rowsView}
 use Rattle.matching.proofs.Laws.{table-snoc}
-use Rattle.threads.proofs.Splice.{splice-long, splice-low, splice-high}
+use Rattle.threads.proofs.Splice.{get-some, get-none, splice-long, splice-low, splice-high}
 
 -- the tuple in six bytes of a table
 module _ (bs : List ℕ) (i : ℕ) (h : 6 * i + 6 ≤ length bs) where
@@ -47,6 +48,18 @@ row-same bs cs i k h l e = ap₂ (λ (n : ℕ) (xs : List ℕ). take n xs) count
     five =
         ext-getD 0 (take 5 (drop (6 * i + 1) bs)) (take 5 (drop (6 * k + 1) cs)) (five-long bs i h ∙ sym (five-long cs k l))
         (λ j t. let u : j < 5 = omega (arith, five-long bs i h) in five-at bs i h j u ∙ e (suc j) (omega arith) ∙ sym (five-at cs k l j u))
+
+-- how many tuples, and the one at place k
+pub rows-long : (n : ℕ) (bs : List ℕ) → length (rowsView n bs) ≡ n
+unfolding rowsView
+rows-long n bs = length-table n (rowAt bs)
+
+pub row-some : (n : ℕ) (bs : List ℕ) (k : ℕ) → k < n → getElem? (rowsView n bs) k ≡ some (rowAt bs k)
+unfolding rowsView
+row-some n bs k h = get-some [] (table n (rowAt bs)) k (omega (arith, length-table n (rowAt bs))) ∙ ap (λ (r : List ℕ). some r) (getD-table n (rowAt bs) k [] h)
+
+pub row-none : (n : ℕ) (bs : List ℕ) (k : ℕ) → n ≤ k → getElem? (rowsView n bs) k ≡ none
+row-none n bs k h = get-none (rowsView n bs) k (omega (arith, rows-long n bs))
 
 -- a loop that stores the bytes of a tuple from place `at` on
 pub record Put (at : ℕ) (row l₀ l : List ℕ) (i : ℕ) : Type 0 where

@@ -2,17 +2,16 @@ use mathlib.Core.Path.{_≡_, refl, sym, ap, _∙_}
 use Prim.Native.Nat.{suc, _≤_, _-_, _+_, _*_}
 use native.Mathlib.Omega.{arith}
 use borrow.Author.Needs.{needs}
-use lib.ListN.{length, drop, take, length-map}
+use lib.ListN.{length, drop}
 use Rattle.klaim.specs.Analysis.{matches}
-use Rattle.tables.specs.View.{rowAt, slotOf, fieldBytes}
-use Rattle.tables.proofs.Lines.{length-first}
+use Rattle.tables.specs.View.{rowAt, slotOf}
 use Rattle.threads.specs.View.{threadView}
-use Rattle.tuples.proofs.Laws.{Slots, Same, agree-other, agree-far, agree-here, match-yes, match-no, match-end}
+use Rattle.tuples.proofs.Laws.{Held, held, Slots, Same, slots-long, agree-other, agree-far, agree-here, match-yes, match-no, match-end}
 use Rattle.tuples.proofs.agrees.Statement.{statement}
 use Rattle.tuples.proofs.agrees.Tie as tie
 
 abbrev Inv-loop : tie.InvT-loop
-Inv-loop lines q count tuples m th at j₀ j = (j ≤ count) × (count ≤ 4) × (length (rowAt tuples m) ≡ suc count) × (matches (Same (threadView th)) (Slots lines q count) (drop 1 (rowAt tuples m)) ≡ matches (Same (threadView th)) (drop j (Slots lines q count)) (drop (suc j) (rowAt tuples m)))
+Inv-loop lines q count tuples m th at j₀ j = (j ≤ count) × Held lines tuples q count m × (matches (Same (threadView th)) (Slots lines q count) (drop 1 (rowAt tuples m)) ≡ matches (Same (threadView th)) (drop j (Slots lines q count)) (drop (suc j) (rowAt tuples m)))
 
 abbrev μ-loop : tie.MeasureT-loop
 μ-loop lines q count tuples m th at j₀ j = count - j
@@ -28,7 +27,7 @@ returns c =
     let s = c .before .before in
     let ar = s .args in
     let here : 10 * ar .q + 10 ≤ length (ar .lines .now) = omega arith in
-    agree-other (threadView (ar .th)) (ar .target) (Slots (ar .lines .now) (ar .q) (ar .count)) (rowAt (ar .tuples .now) (ar .m)) (λ e. omega (arith, c .if1 .taken, c .before .row-len .ensures, length-map (take (ar .count) (fieldBytes (ar .lines .now) (ar .q))) slotOf, length-first (ar .lines .now) (ar .q) (ar .count) here (s .pre .1)))
+    agree-other (threadView (ar .th)) (ar .target) (Slots (ar .lines .now) (ar .q) (ar .count)) (rowAt (ar .tuples .now) (ar .m)) (λ e. omega (arith, c .if1 .taken, c .before .row-len .ensures, slots-long (ar .lines .now) (ar .q) (ar .count) here (s .pre .1)))
 
 mul-at : tie.Need-mul-at Inv-loop μ-loop
 mul-at c = search needs
@@ -46,11 +45,10 @@ returns-2 : tie.Need-returns-2 Inv-loop μ-loop
 returns-2 c =
     let s = c .before .before .before .before .before in
     let ar = s .args in
-    let here : 10 * ar .q + 10 ≤ length (ar .lines .now) = omega arith in
-    agree-far (ar .lines .now) (ar .tuples .now) (ar .q) (ar .count) (ar .m) (s .pre .0) (s .pre .1) here (s .pre .3) (sym (c .before .before .before .before .row-len .ensures) ∙ omega arith) (threadView (ar .th)) (ar .target) (λ e. c .if2 .taken (e ∙ sym (c .before .value .ensures)))
+    agree-far (held (s .pre .0) (s .pre .1) (omega arith) (s .pre .2) (s .pre .3) (sym (c .before .before .before .before .row-len .ensures) ∙ omega arith)) (threadView (ar .th)) (ar .target) (λ e. c .if2 .taken (e ∙ sym (c .before .value .ensures)))
 
 loop-holds : tie.Need-loop-holds Inv-loop μ-loop
-loop-holds c = (omega arith, omega arith, sym (c .before .before .before .before .row-len .ensures) ∙ omega arith, refl)
+loop-holds c = let s = c .before .before .before .before .before in (omega arith, held (s .pre .0) (s .pre .1) (omega arith) (s .pre .2) (s .pre .3) (sym (c .before .before .before .before .row-len .ensures) ∙ omega arith), refl)
 
 field-at-requires : tie.Need-field-at-requires Inv-loop μ-loop
 field-at-requires c κs = search needs
@@ -84,30 +82,27 @@ loop-again c =
     let at = c .before .before .before .before .before .before .loop in
     let s = c .before .before .before .before .before .before .before .before .before .before .before .before in
     let ar = s .args in
-    let here : 10 * ar .q + 10 ≤ length (ar .lines .now) = omega arith in
     let i : suc (at .j) ≡ at .j + 1 = omega arith in
     let p : 6 * ar .m + 1 + suc (at .j) ≡ 6 * ar .m + 1 + 1 + at .j = omega arith in
-    (omega arith, at .inv .1, at .inv .2, at .inv .3 ∙ match-yes (ar .lines .now) (ar .tuples .now) (ar .q) (ar .count) (ar .m) (s .pre .0) (s .pre .1) here (s .pre .3) (at .inv .2) (Same (threadView (ar .th))) (at .j) (at .j + 1) (6 * ar .m + 1 + 1 + at .j) (omega arith) i p (c .before .before .before .slot-of .ensures .0 ∙ ap slotOf (c .before .before .before .before .field-at .ensures)) (sym (c .before .slot-agrees .ensures) ∙ c .if3 .taken))
+    (omega arith, at .inv .1, at .inv .2 ∙ match-yes (at .inv .1) (Same (threadView (ar .th))) (at .j) (at .j + 1) (6 * ar .m + 1 + 1 + at .j) (omega arith) i p (c .before .before .before .slot-of .ensures .0 ∙ ap slotOf (c .before .before .before .before .field-at .ensures)) (sym (c .before .slot-agrees .ensures) ∙ c .if3 .taken))
 
 returns-3 : tie.Need-returns-3 Inv-loop μ-loop
 returns-3 c =
     let at = c .before .before .before .before .before .before .loop in
     let s = c .before .before .before .before .before .before .before .before .before .before .before .before in
     let ar = s .args in
-    let here : 10 * ar .q + 10 ≤ length (ar .lines .now) = omega arith in
     let i : suc (at .j) ≡ at .j + 1 = omega arith in
     let p : 6 * ar .m + 1 + suc (at .j) ≡ 6 * ar .m + 1 + 1 + at .j = omega arith in
-    sym (at .inv .3 ∙ match-no (ar .lines .now) (ar .tuples .now) (ar .q) (ar .count) (ar .m) (s .pre .0) (s .pre .1) here (s .pre .3) (at .inv .2) (Same (threadView (ar .th))) (at .j) (at .j + 1) (6 * ar .m + 1 + 1 + at .j) (omega arith) i p (c .before .before .before .slot-of .ensures .0 ∙ ap slotOf (c .before .before .before .before .field-at .ensures)) (sym (c .before .slot-agrees .ensures) ∙ c .if3 .left))
-    ∙ agree-here (ar .lines .now) (ar .tuples .now) (ar .q) (ar .count) (ar .m) (s .pre .0) (s .pre .1) here (s .pre .3) (at .inv .2) (threadView (ar .th)) (ar .target) (c .before .before .before .before .before .before .before .if2 .left ∙ c .before .before .before .before .before .before .before .before .value .ensures)
+    sym (at .inv .2 ∙ match-no (at .inv .1) (Same (threadView (ar .th))) (at .j) (at .j + 1) (6 * ar .m + 1 + 1 + at .j) (omega arith) i p (c .before .before .before .slot-of .ensures .0 ∙ ap slotOf (c .before .before .before .before .field-at .ensures)) (sym (c .before .slot-agrees .ensures) ∙ c .if3 .left))
+    ∙ agree-here (at .inv .1) (threadView (ar .th)) (ar .target) (c .before .before .before .before .before .before .before .if2 .left ∙ c .before .before .before .before .before .before .before .before .value .ensures)
 
 returns-4 : tie.Need-returns-4 Inv-loop μ-loop
 returns-4 c =
     let at = c .before .loop in
     let s = c .before .before .before .before .before .before .before in
     let ar = s .args in
-    let here : 10 * ar .q + 10 ≤ length (ar .lines .now) = omega arith in
-    sym (at .inv .3 ∙ match-end (ar .lines .now) (ar .tuples .now) (ar .q) (ar .count) (ar .m) (s .pre .0) (s .pre .1) here (s .pre .3) (at .inv .2) (Same (threadView (ar .th))) (at .j) (omega arith))
-    ∙ agree-here (ar .lines .now) (ar .tuples .now) (ar .q) (ar .count) (ar .m) (s .pre .0) (s .pre .1) here (s .pre .3) (at .inv .2) (threadView (ar .th)) (ar .target) (c .before .before .if2 .left ∙ c .before .before .before .value .ensures)
+    sym (at .inv .2 ∙ match-end (at .inv .1) (Same (threadView (ar .th))) (at .j) (omega arith))
+    ∙ agree-here (at .inv .1) (threadView (ar .th)) (ar .target) (c .before .before .if2 .left ∙ c .before .before .before .value .ensures)
 
 pub agrees-spec : {M : Type 1} → statement M
 agrees-spec =

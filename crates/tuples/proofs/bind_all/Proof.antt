@@ -2,16 +2,16 @@ use mathlib.Core.Path.{_≡_, refl, sym, ap, _∙_}
 use Prim.Native.Nat.{suc, _≤_, _-_, _+_, _*_}
 use native.Mathlib.Omega.{arith}
 use borrow.Author.Needs.{needs}
-use lib.ListN.{length, drop}
+use lib.ListN.{drop}
 use Rattle.klaim.specs.Engine.{bindAll}
 use Rattle.tables.specs.View.{rowAt, slotOf}
 use Rattle.threads.specs.View.{threadView, rebound}
-use Rattle.tuples.proofs.Laws.{Slots, bind-target, bind-turn, bind-end}
+use Rattle.tuples.proofs.Laws.{Held, held, Slots, bind-target, bind-turn, bind-end}
 use Rattle.tuples.proofs.bind_all.Statement.{statement}
 use Rattle.tuples.proofs.bind_all.Tie as tie
 
 abbrev Inv-loop : tie.InvT-loop
-Inv-loop lines q count tuples m at r₀ j₀ r j = (j ≤ count) × (count ≤ 4) × (rebound (threadView r₀) (bindAll (Slots lines q count) (drop 1 (rowAt tuples m)) (threadView r₀ .bindings)) ≡ rebound (threadView r) (bindAll (drop j (Slots lines q count)) (drop (suc j) (rowAt tuples m)) (threadView r .bindings)))
+Inv-loop lines q count tuples m at r₀ j₀ r j = (j ≤ count) × Held lines tuples q count m × (rebound (threadView r₀) (bindAll (Slots lines q count) (drop 1 (rowAt tuples m)) (threadView r₀ .bindings)) ≡ rebound (threadView r) (bindAll (drop j (Slots lines q count)) (drop (suc j) (rowAt tuples m)) (threadView r .bindings)))
 
 abbrev μ-loop : tie.MeasureT-loop
 μ-loop lines q count tuples m at r₀ j₀ r j = count - j
@@ -23,7 +23,7 @@ add-at : tie.Need-add-at Inv-loop μ-loop
 add-at c = search needs
 
 loop-holds : tie.Need-loop-holds Inv-loop μ-loop
-loop-holds c = (omega arith, omega arith, refl)
+loop-holds c = (omega arith, held (c .pre .0) (c .pre .1) (omega arith) (c .pre .2) (c .pre .3) (c .pre .4), refl)
 
 field-at-requires : tie.Need-field-at-requires Inv-loop μ-loop
 field-at-requires c κs = search needs
@@ -54,22 +54,20 @@ loop-again c =
     let at = c .before .before .before .before .before .loop in
     let s = c .before .before .before .before .before .before in
     let ar = s .args in
-    let here : 10 * ar .q + 10 ≤ length (ar .lines .now) = omega arith in
     let i : suc (at .j) ≡ at .j + 1 = omega arith in
     let p : 6 * ar .m + 1 + suc (at .j) ≡ 6 * ar .m + 2 + at .j = omega arith in
-    (omega arith, at .inv .1, at .inv .2 ∙ bind-turn (ar .lines .now) (ar .tuples .now) (ar .q) (ar .count) (ar .m) (s .pre .0) (s .pre .1) here (s .pre .3) (s .pre .4) (threadView (at .r)) (threadView (c .bind-slot .result)) (c .before .before .slot-of .result) (at .j) (at .j + 1) (6 * ar .m + 2 + at .j) (omega arith) i p (c .before .before .slot-of .ensures .0 ∙ ap slotOf (c .before .before .before .field-at .ensures)) (c .bind-slot .ensures))
+    (omega arith, at .inv .1, at .inv .2 ∙ bind-turn (at .inv .1) (threadView (at .r)) (threadView (c .bind-slot .result)) (c .before .before .slot-of .result) (at .j) (at .j + 1) (6 * ar .m + 2 + at .j) (omega arith) i p (c .before .before .slot-of .ensures .0 ∙ ap slotOf (c .before .before .before .field-at .ensures)) (c .bind-slot .ensures))
 
 returns : tie.Need-returns Inv-loop μ-loop
 returns c =
     let at = c .before .loop in
     let s = c .before .before in
     let ar = s .args in
-    let here : 10 * ar .q + 10 ≤ length (ar .lines .now) = omega arith in
     let ts = Slots (ar .lines .now) (ar .q) (ar .count) in
     λ g. sym
     (ap (rebound (threadView (ar .th))) (bind-target g ts (rowAt (ar .tuples .now) (ar .m)) (threadView (ar .th) .bindings) (omega (arith, s .pre .4)))
     ∙ at .inv .2
-    ∙ ap (rebound (threadView (at .r))) (bind-end (ar .lines .now) (ar .tuples .now) (ar .q) (ar .count) (ar .m) (s .pre .0) (s .pre .1) here (s .pre .3) (s .pre .4) (at .j) (threadView (at .r) .bindings) (drop (suc (at .j)) (rowAt (ar .tuples .now) (ar .m))) (omega arith)))
+    ∙ ap (rebound (threadView (at .r))) (bind-end (at .inv .1) (at .j) (threadView (at .r) .bindings) (drop (suc (at .j)) (rowAt (ar .tuples .now) (ar .m))) (omega arith)))
 
 pub bind-all-spec : {M : Type 1} → statement M
 bind-all-spec =
