@@ -11,18 +11,18 @@ use native.Mathlib.Numerals.{add-one}
 use borrow.Author.Tests.{ne-eqb}
 use lib.ListN.{length, getD, getElem?, set, take, length-set, length-map}
 use lib.Seq.{getD-set-same, getD-set-other, ext-getD, take-suc-set, take-set-lt, length-take-le, getD-take}
-use Rattle.sets.specs.Lists.{either, splice, _&_}
+use Rattle.sets.specs.Lists.{either, splice, table, tableFrom, _&_}
 use Rattle.sets.specs.Bits.{has, mem, join}
 use Rattle.sets.proofs.Lists.{eq-eqb, or-r, map-append}
-use Rattle.sets.proofs.Tables.{getD-table, length-table, Filled}
-use Rattle.sets.proofs.Bits.{has-or}
+use Rattle.sets.proofs.Tables.{getD-table, length-table, same-table, Filled}
+use Rattle.sets.proofs.Bits.{has-or, has-none}
 use Rattle.klaim.specs.declared.Site.{Site}
 use Rattle.klaim.specs.declared.Var.{Var}
 use Rattle.klaim.specs.declared.Loc.{Loc}
 use Rattle.klaim.specs.declared.Loc.the-variants.{At, Here, Use}
 use Rattle.klaim.specs.Net.{Net, home}
 use Rattle.klaim.specs.State as Spec
-use Rattle.klaim.specs.Engine.{value, permits}
+use Rattle.klaim.specs.Engine.{value, under, permits}
 use Rattle.flow.proofs.Sites.{mem-single}
 use Rattle.threads.specs.declared.Thread.{Thread}
 use Rattle.threads.specs.View.{noSite, noThread, binding, bindingsView, threadView, threadsView}
@@ -35,6 +35,11 @@ bindings-long b ss = length-table 32 (binding b ss)
 pub bindings-at : (b : ℕ) (ss : List Site) (u : ℕ) → u < 32 → getD (bindingsView b ss) u none ≡ binding b ss u
 unfolding bindingsView
 bindings-at b ss u h = getD-table 32 (binding b ss) u none h
+
+-- nothing bound
+pub bindings-none : (ss : List Site) → bindingsView 0 ss ≡ Spec.unbound
+unfolding bindingsView binding table tableFrom
+bindings-none ss = same-table 32 (binding 0 ss) (λ u. none) none (λ u h. ap (λ (x : Bool). cond x (some (getD ss u noSite .0)) none) (has-none u))
 
 -- variable u, bound or not
 pub bound-yes : (b : ℕ) (ss : List Site) (u : ℕ) → u < 32 → mem u b ≡ true → getD ss u noSite .0 ≡ Option·getD (getD (bindingsView b ss) u none) 0
@@ -114,6 +119,11 @@ module _ (items : List Thread) (n : ℕ) (th : Thread) where
 pub remove-view : {k n : ℕ} {l₀ l : List Thread} → Filled noThread (λ j. getD (splice k [] l₀) j noThread) l₀ l n → k ≤ n → n < length l₀ → (m : ℕ) → suc n ≡ m → threadsView n l ≡ splice k [] (threadsView m l₀)
 unfolding threadsView
 remove-view {k} {n} {l₀} {l} F h i m e = ap (map threadView) (moved-all F h i m e) ∙ map-splice threadView k [] (take m l₀)
+
+-- a thread under a sandbox
+pub under-view : (N : Net) (k l b : ℕ) (e : Spec.Bindings) {p : List ℕ} → p ≡ Spec.boxPolicy N k l → record { site = l; policy = p; line = b; bindings = e } ≡ under N k l b e
+unfolding under
+under-view N k l b e q = rw q
 
 -- a right on site t
 module _ (N : Net) {hs : List ℕ} (th : Spec.Thread) (t right : ℕ) (e : N .homes ≡ hs) where

@@ -8,9 +8,9 @@ ghost use Rattle.sets.specs.Lists.{splice};
 ghost use Rattle.sets.specs.Bits.{has};
 ghost use Rattle.klaim.specs.Net.{Net};
 ghost use Rattle.klaim.specs.State.{homePolicy, boxPolicy};
-ghost use Rattle.klaim.specs.Engine.{value as valueOf, permits as permitsOf};
+ghost use Rattle.klaim.specs.Engine.{value as valueOf, to as toLine, under as underOf, permits as permitsOf};
 ghost use Rattle.tables.specs.View.{LowLoc};
-ghost use Rattle.threads.specs.View.{threadView, threadsView, rebound};
+ghost use Rattle.threads.specs.View.{bindingsView, threadView, threadsView, rebound};
 use klaim::Loc;
 use klaim::Site;
 use klaim::Var;
@@ -61,6 +61,15 @@ pub fn bind(th: Thread, u: Var, s: u8) -> Thread
     let mut r = th;
     r.bound = th.bound | sets::single(u.0);
     r.bindings[at] = Site(s);
+    r
+}
+
+// The thread, come to line q.
+pub fn to(th: Thread, q: u8) -> Thread
+    ensures { λ r. ⌜ threadView r ≡ toLine (threadView th) q ⌝ }
+{
+    let mut r = th;
+    r.line = q;
     r
 }
 
@@ -126,6 +135,21 @@ pub fn box_policy(boxes: &[u8; 1056], k: u8, l: u8) -> [u8; 32]
         i += 1;
     }
     r
+}
+
+// A thread at site l on line b, under sandbox k evaluated there.
+pub fn under(boxes: &[u8; 1056], k: u8, l: u8, b: u8, bound: u32, bindings: [Site; 32]) -> Thread
+    requires { ⌜ k < 32 ⌝ }
+    ensures { λ r. ⌜ ((N : Net) → N .boxes ≡ now (boxes .entry) → threadView r ≡ underOf N k l b (bindingsView bound bindings)) ⌝ }
+{
+    let policy = box_policy(boxes, k, l);
+    Thread {
+        site: Site(l),
+        policy,
+        line: b,
+        bound,
+        bindings,
+    }
 }
 
 // Whether a set has a right.
