@@ -1,0 +1,137 @@
+-- Laws of tuples in a table of bytes: put behind the others, or taken out.
+-- Assumes nothing.
+use mathlib.Core.Path.{_≡_, refl, sym, ap, ap₂, _∙_}
+use mathlib.Core.List.{List, [], _∷_, _++_}
+use mathlib.Core.Option.{none, some}
+use Prim.Native.Nat.{ℕ, suc, _+_, _*_, _-_, _<_, _≤_}
+use native.Mathlib.Omega.{arith}
+use native.Mathlib.Decide.{ℕ-discrete, decLt}
+use native.Mathlib.Numerals.{add-one}
+use lib.ListN.{length, getD, getElem?, set, take, drop, length-take, length-drop, length-set}
+use lib.Seq.{getD-take, getD-drop, getD-set-same, getD-set-other, ext-getD}
+use Rattle.sets.specs.Lists.{splice, table}
+use Rattle.sets.proofs.Tables.{getD-table, length-table, same-table}
+use Rattle.tables.specs.View.{rowAt, rowsView}
+use Rattle.matching.proofs.Laws.{table-snoc}
+use Rattle.threads.proofs.Splice.{get-some, get-none, splice-long, splice-low, splice-high}
+
+-- the tuple in six bytes of a table
+module _ (bs : List ℕ) (i : ℕ) (h : 6 * i + 6 ≤ length bs) where
+  five-long : length (take 5 (drop (6 * i + 1) bs)) ≡ 5
+  five-long = omega (arith, length-take 5 (drop (6 * i + 1) bs), length-drop (6 * i + 1) bs)
+
+  five-at : (j : ℕ) → j < 5 → getD (take 5 (drop (6 * i + 1) bs)) j 0 ≡ getD bs (6 * i + suc j) 0
+  five-at j l =
+      let e : 6 * i + 1 + j ≡ 6 * i + suc j = omega arith in
+      getD-take 5 (drop (6 * i + 1) bs) j 0 l ∙ getD-drop (6 * i + 1) bs j 0 ∙ ap (λ (k : ℕ). getD bs k 0) e
+
+  pub row-long : (n : ℕ) → getD bs (6 * i) 0 ≡ n → n ≤ 5 → length (rowAt bs i) ≡ n
+  unfolding rowAt
+  row-long n e l = omega (arith, length-take (getD bs (6 * i) 0) (take 5 (drop (6 * i + 1) bs)), five-long)
+
+  pub row-at : (j : ℕ) → j < getD bs (6 * i) 0 → j < 5 → getD (rowAt bs i) j 0 ≡ getD bs (6 * i + suc j) 0
+  unfolding rowAt
+  row-at j k l = getD-take (getD bs (6 * i) 0) (take 5 (drop (6 * i + 1) bs)) j 0 k ∙ five-at j l
+
+-- equal bytes, equal tuples
+pub row-same : (bs cs : List ℕ) (i k : ℕ) → 6 * i + 6 ≤ length bs → 6 * k + 6 ≤ length cs → ((j : ℕ) → j < 6 → getD bs (6 * i + j) 0 ≡ getD cs (6 * k + j) 0) → rowAt bs i ≡ rowAt cs k
+unfolding rowAt
+row-same bs cs i k h l e = ap₂ (λ (n : ℕ) (xs : List ℕ). take n xs) count five
+  where
+    count : getD bs (6 * i) 0 ≡ getD cs (6 * k) 0
+    count =
+        let p : 6 * i ≡ 6 * i + 0 = omega arith in
+        let q : 6 * k + 0 ≡ 6 * k = omega arith in
+        ap (λ (n : ℕ). getD bs n 0) p ∙ e 0 (omega arith) ∙ ap (λ (n : ℕ). getD cs n 0) q
+
+    five : take 5 (drop (6 * i + 1) bs) ≡ take 5 (drop (6 * k + 1) cs)
+    five =
+        ext-getD 0 (take 5 (drop (6 * i + 1) bs)) (take 5 (drop (6 * k + 1) cs)) (five-long bs i h ∙ sym (five-long cs k l))
+        (λ j t. let u : j < 5 = omega (arith, five-long bs i h) in five-at bs i h j u ∙ e (suc j) (omega arith) ∙ sym (five-at cs k l j u))
+
+-- how many tuples, and the one at place k
+pub rows-long : (n : ℕ) (bs : List ℕ) → length (rowsView n bs) ≡ n
+unfolding rowsView
+rows-long n bs = length-table n (rowAt bs)
+
+pub row-some : (n : ℕ) (bs : List ℕ) (k : ℕ) → k < n → getElem? (rowsView n bs) k ≡ some (rowAt bs k)
+unfolding rowsView
+row-some n bs k h = get-some [] (table n (rowAt bs)) k (omega (arith, length-table n (rowAt bs))) ∙ ap (λ (r : List ℕ). some r) (getD-table n (rowAt bs) k [] h)
+
+pub row-none : (n : ℕ) (bs : List ℕ) (k : ℕ) → n ≤ k → getElem? (rowsView n bs) k ≡ none
+row-none n bs k h = get-none (rowsView n bs) k (omega (arith, rows-long n bs))
+
+-- a loop that stores the bytes of a tuple from place `at` on
+pub record Put (at : ℕ) (row l₀ l : List ℕ) (i : ℕ) : Type 0 where
+  pub long : length l ≡ length l₀
+  pub low : (k : ℕ) → k < at → getD l k 0 ≡ getD l₀ k 0
+  pub wrote : (k : ℕ) → k < i → getD l (at + k) 0 ≡ getD row k 0
+
+pub put-none : (at : ℕ) (row l : List ℕ) → Put at row l l 0
+put-none at row l = record { long = refl; low = λ k h. refl; wrote = λ k h. absurd (omega arith) }
+
+pub put-more : {at : ℕ} {row l₀ l : List ℕ} {i : ℕ} → Put at row l₀ l i → at + i < length l₀ → Put at row l₀ (set l (at + i) (getD row i 0)) (i + 1)
+put-more {at} {row} {l₀} {l} {i} P h = record {
+  long = length-set l (at + i) (getD row i 0) ∙ P .long;
+  low = λ k t. getD-set-other l (at + i) k (getD row i 0) 0 (omega arith) ∙ P .low k t;
+  wrote = λ k t. here k t (ℕ-discrete k i);
+}
+  where
+    here : (k : ℕ) → k < i + 1 → Dec (k ≡ i) → getD (set l (at + i) (getD row i 0)) (at + k) 0 ≡ getD row k 0
+    here k t (yes e) = rw e (getD-set-same l (at + i) (getD row i 0) 0 (omega (arith, P .long)))
+    here k t (no n) = getD-set-other l (at + i) (at + k) (getD row i 0) 0 (omega arith) ∙ P .wrote k (omega arith)
+
+pub put-all : (n : ℕ) {row l₀ l : List ℕ} → Put (6 * n) row l₀ l 6 → length row ≡ 6 → 6 * n + 6 ≤ length l₀ → rowsView (n + 1) l ≡ rowsView n l₀ ++ (rowAt row 0 ∷ [])
+unfolding rowsView
+put-all n {row} {l₀} {l} P six h =
+    ap (λ (k : ℕ). table k (rowAt l)) (add-one n)
+    ∙ table-snoc n (rowAt l)
+    ∙ ap₂ (λ (a : List (List ℕ)) (b : List ℕ). a ++ (b ∷ [])) before here
+  where
+    before : table n (rowAt l) ≡ table n (rowAt l₀)
+    before = same-table n (rowAt l) (rowAt l₀) [] (λ k t. row-same l l₀ k k (omega (arith, P .long)) (omega arith) (λ j u. P .low (6 * k + j) (omega arith)))
+
+    here : rowAt l n ≡ rowAt row 0
+    here = row-same l row n 0 (omega (arith, P .long)) (omega arith) (λ j u. let z : j ≡ 6 * 0 + j = omega arith in P .wrote j u ∙ ap (λ (i : ℕ). getD row i 0) z)
+
+-- a loop that moves the bytes behind a tuple up by six
+pub record Moved (at : ℕ) (l₀ l : List ℕ) (i : ℕ) : Type 0 where
+  pub long : length l ≡ length l₀
+  pub low : (k : ℕ) → k < at → getD l k 0 ≡ getD l₀ k 0
+  pub up : (k : ℕ) → at ≤ k → k < i → getD l k 0 ≡ getD l₀ (k + 6) 0
+  pub rest : (k : ℕ) → i ≤ k → getD l k 0 ≡ getD l₀ k 0
+
+pub moved-none : (at : ℕ) (l : List ℕ) → Moved at l l at
+moved-none at l = record { long = refl; low = λ k h. refl; up = λ k h t. absurd (omega arith); rest = λ k h. refl }
+
+pub moved-more : {at : ℕ} {l₀ l : List ℕ} {i : ℕ} → Moved at l₀ l i → at ≤ i → i < length l₀ → Moved at l₀ (set l i (getD l (i + 6) 0)) (i + 1)
+moved-more {at} {l₀} {l} {i} M h t = record {
+  long = length-set l i (getD l (i + 6) 0) ∙ M .long;
+  low = λ k u. getD-set-other l i k (getD l (i + 6) 0) 0 (omega arith) ∙ M .low k u;
+  up = λ k u v. here k u v (ℕ-discrete k i);
+  rest = λ k u. getD-set-other l i k (getD l (i + 6) 0) 0 (omega arith) ∙ M .rest k (omega arith);
+}
+  where
+    here : (k : ℕ) → at ≤ k → k < i + 1 → Dec (k ≡ i) → getD (set l i (getD l (i + 6) 0)) k 0 ≡ getD l₀ (k + 6) 0
+    here k u v (yes e) = rw e (getD-set-same l i (getD l (i + 6) 0) 0 (omega (arith, M .long)) ∙ M .rest (i + 6) (omega arith))
+    here k u v (no n) = getD-set-other l i k (getD l (i + 6) 0) 0 n ∙ M .up k u (omega arith)
+
+pub moved-all : (n m : ℕ) {l₀ l : List ℕ} → Moved (6 * m) l₀ l (6 * (n - 1)) → m < n → 6 * n ≤ length l₀ → rowsView (n - 1) l ≡ splice m [] (rowsView n l₀)
+unfolding rowsView
+moved-all n m {l₀} {l} M h t =
+    ext-getD [] (table (n - 1) (rowAt l)) (splice m [] (table n (rowAt l₀)))
+    (length-table (n - 1) (rowAt l) ∙ omega (arith, splice-long m (table n (rowAt l₀)) (omega (arith, length-table n (rowAt l₀))), length-table n (rowAt l₀)))
+    (λ k u. let v : k < n - 1 = omega (arith, length-table (n - 1) (rowAt l)) in getD-table (n - 1) (rowAt l) k [] v ∙ here k v (decLt k m))
+  where
+    here : (k : ℕ) → k < n - 1 → Dec (k < m) → rowAt l k ≡ getD (splice m [] (table n (rowAt l₀))) k []
+    here k v (yes e) =
+        row-same l l₀ k k (omega (arith, M .long)) (omega arith) (λ j u. M .low (6 * k + j) (omega arith))
+        ∙ sym (splice-low m (table n (rowAt l₀)) k [] e ∙ getD-table n (rowAt l₀) k [] (omega arith))
+    here k v (no e) =
+        row-same l l₀ k (suc k) (omega (arith, M .long)) (omega arith) (λ j u. moved j u)
+        ∙ sym (splice-high m (table n (rowAt l₀)) k [] (omega arith) ∙ getD-table n (rowAt l₀) (suc k) [] (omega arith))
+      where
+        moved : (j : ℕ) → j < 6 → getD l (6 * k + j) 0 ≡ getD l₀ (6 * suc k + j) 0
+        moved j u =
+            let q : 6 * k + j + 6 ≡ 6 * suc k + j = omega arith in
+            M .up (6 * k + j) (omega arith) (omega arith) ∙ ap (λ (i : ℕ). getD l₀ i 0) q
