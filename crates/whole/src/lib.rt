@@ -1,13 +1,18 @@
 //! Tests over a whole text: its lines in order, each named once, its roots closed.
 ghost use mathlib.Core.Path.{_≡_};
+ghost use mathlib.Core.List.{List, map};
 ghost use Prim.Native.Nat.{ℕ, _<_, _≤_};
+ghost use lib.Dec.{ltb};
 ghost use lib.ListN.{length, take};
-ghost use Rattle.sets.specs.Lists.{empty};
+ghost use Rattle.sets.specs.Lists.{_&_, all, empty};
 ghost use Rattle.sets.specs.Bits.{join, less, joins};
 ghost use Rattle.klaim.specs.declared.Slot.the-variants.{Value};
-ghost use Rattle.klaim.specs.Process.{usedIn, tree, free};
-ghost use Rattle.tables.specs.View.{linesView, fieldBytes, LowLoc, InForm};
+ghost use Rattle.klaim.specs.Process.{children, usedIn, tree, ordered, free};
+ghost use Rattle.klaim.specs.Reader.{rootsClosed};
+ghost use Rattle.tables.specs.View.{lineOf, linesView, rootsView, fieldBytes, actionLine, LowLoc, InForm};
 ghost use Rattle.whole.specs.Free.{maskOf, varIn, namesOf};
+ghost use Rattle.whole.specs.Children.{listOf};
+ghost use Rattle.whole.specs.Rooted.{Rooted};
 use klaim::Loc;
 use tables::Action;
 
@@ -140,4 +145,116 @@ pub fn closed(lines: &[u8; 2560], n: usize, q: u8) -> bool
     ensures { λ r. ⌜ r ≡ empty (free (tree (linesView n (now (lines .entry))) q)) ⌝ }
 {
     free_vars(lines, n, q) == 0
+}
+
+// Whether no root has a free variable.
+pub fn roots_closed(lines: &[u8; 2560], n: usize, roots: &[u8; 128], m: usize) -> bool
+    requires { ⌜ Rooted n (now lines) m (now roots) ⌝ }
+    ensures { λ r. ⌜ r ≡ rootsClosed (linesView n (now (lines .entry))) (map (λ x. x .line) (rootsView m (now (roots .entry)))) ⌝ }
+{
+    let mut i: usize = 0;
+    while i < m {
+        if closed(lines, n, roots[2 * i + 1]) {
+            i += 1;
+        } else {
+            return false;
+        }
+    }
+    true
+}
+
+// Whether a child of line q is greater than q and one of the n lines.
+fn child_fits(q: usize, n: usize, child: u8) -> bool
+    ensures { λ r. ⌜ r ≡ ltb q child & ltb child n ⌝ }
+{
+    let c = matching::wide(child);
+    q < c && c < n
+}
+
+// The lines that a line names.
+enum Children {
+    Zero,
+    One(u8),
+    Two(u8, u8),
+}
+
+fn children_of(action: Action) -> Children
+    ensures { λ r. ⌜ ((fs : List ℕ) → listOf r ≡ children (actionLine action fs)) ⌝ }
+{
+    match action {
+        Action::Nil => Children::Zero,
+        Action::Par { next, second } => Children::Two(next, second),
+        Action::Rep { next } => Children::One(next),
+        Action::Out {
+            next,
+            target: _,
+            count: _,
+        } => Children::One(next),
+        Action::In {
+            next,
+            target: _,
+            count: _,
+        } => Children::One(next),
+        Action::Read {
+            next,
+            target: _,
+            count: _,
+        } => Children::One(next),
+        Action::Eval {
+            next,
+            target: _,
+            body,
+            sandbox: _,
+        } => Children::Two(next, body),
+        Action::Accept { next, sandbox: _ } => Children::One(next),
+    }
+}
+
+fn children_at(lines: &[u8; 2560], q: u8) -> Children
+    ensures { λ r. ⌜ listOf r ≡ children (lineOf (now (lines .entry)) q) ⌝ }
+{
+    children_of(tables::action_at(lines, q))
+}
+
+// Whether each of the children of line q is greater than q and one of the n lines.
+fn children_fit(cs: Children, q: usize, n: usize) -> bool
+    ensures { λ r. ⌜ r ≡ all (λ c. ltb q c & ltb c n) (listOf cs) ⌝ }
+{
+    match cs {
+        Children::Zero => true,
+        Children::One(a) => child_fits(q, n, a),
+        Children::Two(a, b) => child_fits(q, n, a) && child_fits(q, n, b),
+    }
+}
+
+// Whether each child is greater than its parent and one of the n lines.
+pub fn in_order(lines: &[u8; 2560], n: usize) -> bool
+    requires { ⌜ n ≤ 256 ⌝ }
+    ensures { λ r. ⌜ r ≡ ordered (linesView n (now (lines .entry))) ⌝ }
+{
+    let mut q: usize = 0;
+    while q < n {
+        if children_fit(children_at(lines, q as u8), q, n) {
+            q += 1;
+        } else {
+            return false;
+        }
+    }
+    true
+}
+
+// Whether the lines of the m roots are among the n lines.
+pub fn roots_present(roots: &[u8; 128], m: usize, n: usize) -> bool
+    requires { ⌜ m ≤ 64 ⌝ }
+    ensures { λ r. ⌜ r ≡ all (λ q. ltb q n) (map (λ x. x .line) (rootsView m (now (roots .entry)))) ⌝ }
+{
+    let mut i: usize = 0;
+    while i < m {
+        if matching::wide(roots[2 * i + 1]) < n {
+            i += 1;
+        } else {
+            return false;
+        }
+    }
+    true
 }
