@@ -1,18 +1,19 @@
 //! Tests over a whole text: its lines in order, each named once, its roots closed.
 ghost use mathlib.Core.Path.{_≡_};
-ghost use mathlib.Core.List.{List, map};
-ghost use Prim.Native.Nat.{ℕ, _<_, _≤_};
-ghost use lib.Dec.{ltb};
-ghost use lib.ListN.{length, take};
-ghost use Rattle.sets.specs.Lists.{_&_, all, empty};
+ghost use mathlib.Core.List.{List, [], _∷_, map};
+ghost use Prim.Native.Nat.{ℕ, _+_, _<_, _≤_, min};
+ghost use lib.Dec.{eqb, ltb};
+ghost use lib.ListN.{length, take, getD};
+ghost use Rattle.sets.specs.Lists.{_&_, all, empty, concat, below, _∪_};
 ghost use Rattle.sets.specs.Bits.{join, less, joins};
 ghost use Rattle.klaim.specs.declared.Slot.the-variants.{Value};
 ghost use Rattle.klaim.specs.Process.{children, usedIn, tree, ordered, free};
-ghost use Rattle.klaim.specs.Reader.{rootsClosed};
+ghost use Rattle.klaim.specs.Reader.{namedOnce, rootsClosed};
 ghost use Rattle.tables.specs.View.{lineOf, linesView, rootsView, fieldBytes, actionLine, LowLoc, InForm};
 ghost use Rattle.whole.specs.Free.{maskOf, varIn, namesOf};
 ghost use Rattle.whole.specs.Children.{listOf};
 ghost use Rattle.whole.specs.Rooted.{Rooted};
+ghost use Rattle.whole.specs.Counted.{Counted};
 use klaim::Loc;
 use tables::Action;
 
@@ -257,4 +258,106 @@ pub fn roots_present(roots: &[u8; 128], m: usize, n: usize) -> bool
         }
     }
     true
+}
+
+// One more, at most two.
+fn one_more(count: u8) -> u8
+    ensures { λ r. ⌜ r ≡ min (count + 1) 2 ⌝ }
+{
+    if count < 1 { 1 } else { 2 }
+}
+
+// Line q named once more; `counts` has how often each line is named, at most two.
+fn named(counts: &mut [u8; 256], q: u8)
+    ensures { λ r. ⌜ ((xs : List ℕ) → Counted xs (now (counts .entry)) → Counted (xs ∪ (q ∷ [])) (now (counts .exit))) ⌝ }
+{
+    let at = q as usize;
+    counts[at] = one_more(counts[at]);
+}
+
+// The children of a line named once more.
+fn named_children(counts: &mut [u8; 256], cs: Children)
+    ensures { λ r. ⌜ ((xs : List ℕ) → Counted xs (now (counts .entry)) → Counted (xs ∪ listOf cs) (now (counts .exit))) ⌝ }
+{
+    match cs {
+        Children::Zero => {}
+        Children::One(a) => {
+            named(counts, a);
+        }
+        Children::Two(a, b) => {
+            named(counts, a);
+            named(counts, b);
+        }
+    }
+}
+
+// The children of all n lines named once more.
+fn named_lines(counts: &mut [u8; 256], lines: &[u8; 2560], n: usize)
+    requires { ⌜ n ≤ 256 ⌝ }
+    ensures { λ r. ⌜ ((xs : List ℕ) → Counted xs (now (counts .entry)) → Counted (xs ∪ concat children (linesView n (now (lines .entry)))) (now (counts .exit))) ⌝ }
+{
+    let mut q: usize = 0;
+    while q < n {
+        let cs = children_at(lines, q as u8);
+        named_children(counts, cs);
+        q += 1;
+    }
+}
+
+// Whether each of the n lines is named once.
+fn all_one(counts: &[u8; 256], n: usize) -> bool
+    requires { ⌜ n ≤ 256 ⌝ }
+    ensures { λ r. ⌜ r ≡ all (λ q. eqb (getD (now (counts .entry)) q 0) 1) (below n) ⌝ }
+{
+    let mut q: usize = 0;
+    while q < n {
+        if counts[q] == 1 {
+            q += 1;
+        } else {
+            return false;
+        }
+    }
+    true
+}
+
+// Whether each of the n lines is named once, by a parent or as a root; `roots` has how often each is named as a root.
+pub fn named_once_from(lines: &[u8; 2560], n: usize, roots: [u8; 256]) -> bool
+    requires { ⌜ n ≤ 256 ⌝ }
+    ensures { λ r. ⌜ ((xs : List ℕ) → Counted xs roots → r ≡ namedOnce (linesView n (now (lines .entry))) xs) ⌝ }
+{
+    let mut counts = roots;
+    named_lines(&mut counts, lines, n);
+    all_one(&counts, n)
+}
+
+// How often each line is named by the m roots.
+pub fn named_roots(roots: &[u8; 128], m: usize) -> [u8; 256]
+    requires { ⌜ m ≤ 64 ⌝ }
+    ensures { λ r. ⌜ Counted (map (λ x. x .line) (rootsView m (now (roots .entry)))) r ⌝ }
+{
+    let mut counts = [0u8; 256];
+    let mut i: usize = 0;
+    while i < m {
+        named(&mut counts, roots[2 * i + 1]);
+        i += 1;
+    }
+    counts
+}
+
+// Line 0 named alone: the root of an arrival.
+pub fn named_first() -> [u8; 256]
+    ensures { λ r. ⌜ Counted (0 ∷ []) r ⌝ }
+{
+    let mut counts = [0u8; 256];
+    named(&mut counts, 0);
+    counts
+}
+
+// Whether each of the n lines is named once, by a parent or by one of the m roots.
+pub fn named_once(lines: &[u8; 2560], n: usize, roots: &[u8; 128], m: usize) -> bool
+    requires { ⌜ (n ≤ 256) × (m ≤ 64) ⌝ }
+    ensures { λ r. ⌜ r ≡ namedOnce (linesView n (now (lines .entry))) (map (λ x. x .line) (rootsView m (now (roots .entry)))) ⌝ }
+{
+    let counts = named_roots(roots, m);
+    named_once_from(lines, n, counts)
 }
