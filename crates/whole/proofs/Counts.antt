@@ -1,8 +1,8 @@
 -- Laws of how often lines are named.
 -- Assumes nothing.
 use mathlib.Core.Path.{_≡_, refl, sym, ap, ap₂, subst, _∙_}
-use mathlib.Core.Bool.{Bool, true, false, cond}
-use mathlib.Core.List.{List, [], _∷_, _++_, map}
+use mathlib.Core.Bool.{Bool}
+use mathlib.Core.List.{List, [], _∷_, map}
 use Prim.Native.Nat.{ℕ, zero, suc, _+_, _*_, _<_, _≤_, min}
 use native.Mathlib.Omega.{arith}
 use native.Mathlib.Decide.{ℕ-discrete}
@@ -14,10 +14,10 @@ use Rattle.sets.specs.Lists.{Elem, first, later, _&_, all, only, keep, concat, 
 use Rattle.sets.proofs.Lists.{eq-eqb, union-append, length-keep, map-append}
 use Rattle.sets.proofs.Tables.{in-below}
 use Rattle.sets.proofs.Runs.{union-none, union-assoc, concat-append, concat-one}
-use Rattle.klaim.specs.Process.{Line, children}
+use Rattle.klaim.specs.Process.{children}
 use Rattle.klaim.specs.Net.{Root}
 use Rattle.klaim.specs.Reader.{namedOnce}
-use Rattle.tables.specs.View.{lineOf, linesView, rootAt, rootsView}
+use Rattle.tables.specs.View.{lineOf, linesView, rootAt}
 use Rattle.tables.proofs.Lines.{length-view}
 use Rattle.matching.proofs.Laws.{table-snoc}
 use Rattle.whole.specs.declared.Children.{Children}

@@ -1,7 +1,6 @@
 -- Laws of free variables as sets of numbers.
 -- Assumes nothing.
 use mathlib.Core.Path.{_≡_, refl, sym, ap, ap₂, subst, _∙_}
-use mathlib.Core.Logic.{_⊎_, inl, inr}
 use mathlib.Core.Bool.{Bool, true, false, not, cond, false≢true}
 use mathlib.Core.List.{List, [], _∷_, map}
 use Prim.Native.Nat.{ℕ, zero, suc, _+_, _*_, _/_, _%_, _^_, _<_, _≤_, min}
@@ -12,7 +11,7 @@ use lib.Dec.{eqb}
 use lib.ListN.{length, getD, take, drop, length-take, drop-of-length-le}
 use lib.Seq.{drop-cons, getD-take}
 use borrow.Author.Tests.{ne-eqb}
-use Rattle.sets.specs.Lists.{Elem, _&_, either, any, only, keep, empty, concat, among, _∪_}
+use Rattle.sets.specs.Lists.{Elem, _&_, either, any, empty, concat, among, _∪_}
 use Rattle.sets.proofs.Lists.{iff, and-i, and-l, and-r, in-any, in-keep, keep-out, among-in, eq-eqb, eqb-eq}
 use Rattle.sets.specs.Bits.{inBit, readBit, has, join, meet, less, grant, joins}
 use Rattle.sets.proofs.Bits.{has-or, has-none, has-self, has-half, or-has-l, same-bits, join-none-l, join-none-r, join-assoc}
@@ -30,6 +29,7 @@ use Rattle.tables.proofs.Lines.{tree-at, Child, Next, next}
 use Rattle.whole.specs.declared.Names.{Names}
 use Rattle.whole.specs.declared.Names.the-variants.{Ends, Follows, Fields, Forks}
 use Rattle.whole.specs.Free.{maskOf, varIn, namesOf}
+use Rattle.whole.proofs.Order.{and-true}
 
 -- the set of one number has that number alone
 suc-eqb : (n u : ℕ) → eqb n u ≡ eqb (suc n) (suc u)
@@ -75,9 +75,6 @@ has-rest a b n = rw (xor-shr a (bitAnd a b) n, and-shr a b n) (low (a / 2 ^ n) (
 
 less-none : (a : ℕ) → less a 0 ≡ a
 less-none a = same-bits _ _ (λ n. has-rest a 0 n ∙ ap (λ (b : Bool). has a (2 ^ n) & not b) (has-none n) ∙ and-true (has a (2 ^ n)))
-  where
-    and-true : (b : Bool) → (b & not false) ≡ b
-    and-true b = iff (λ t. and-l _ _ t) (λ t. and-i t refl)
 
 -- the set of a list has its elements
 mask-has : (xs : List ℕ) (n : ℕ) → has (maskOf xs) (2 ^ n) ≡ among xs n

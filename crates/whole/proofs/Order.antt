@@ -1,17 +1,17 @@
 -- Laws of the tests over all lines and over all roots.
 -- Assumes nothing.
-use mathlib.Core.Path.{_≡_, refl, sym, ap, subst, _∙_}
+use mathlib.Core.Path.{_≡_, refl, sym, ap, _∙_}
 use mathlib.Core.Bool.{Bool, true, false}
 use mathlib.Core.List.{List, [], _∷_, map}
 use Prim.Native.Nat.{ℕ, zero, suc, _+_, _*_, _<_, _≤_}
 use native.Mathlib.Omega.{arith}
 use lib.Dec.{ltb}
-use lib.ListN.{length, getD}
+use lib.ListN.{getD}
 use borrow.Author.Tests.{lt-ltb, le-ltb}
 use Rattle.sets.specs.Lists.{_&_, all, empty, tableFrom, table, below}
 use Rattle.sets.proofs.Lists.{ltb-lt}
 use Rattle.sets.proofs.Tables.{table-all}
-use Rattle.klaim.specs.Process.{Line, children, orderedFrom, ordered, tree, free}
+use Rattle.klaim.specs.Process.{children, orderedFrom, ordered, tree, free}
 use Rattle.klaim.specs.Net.{Root}
 use Rattle.klaim.specs.Reader.{rootsClosed}
 use Rattle.tables.specs.View.{lineOf, linesView, rootAt, rootsView, InForm}

@@ -17,153 +17,6 @@ ghost use Rattle.whole.specs.Counted.{Counted};
 use klaim::Loc;
 use tables::Action;
 
-// The sorts of a field's byte that name a variable: u, and `!u`.
-const USED: u8 = 2;
-
-const BOUND: u8 = 3;
-
-// The variable of a field's byte as a set, if the byte has this sort.
-fn var_of(code: u8, sort: u8) -> u32
-    ensures { λ r. ⌜ r ≡ varIn sort code ⌝ }
-{
-    if code / tables::SORT % 4 == sort {
-        return sets::single(code % tables::SORT);
-    }
-    0
-}
-
-// The variables of this sort in the first fields of line q.
-fn vars_in(lines: &[u8; 2560], q: u8, count: u8, sort: u8) -> u32
-    requires { ⌜ (count ≤ 4) × (length (now lines) ≡ 2560) ⌝ }
-    ensures { λ r. ⌜ r ≡ joins (varIn sort) (take count (fieldBytes (now (lines .entry)) q)) ⌝ }
-{
-    let mut r: u32 = 0;
-    let mut j: u8 = count;
-    while 0 < j {
-        j -= 1;
-        r = var_of(tables::field_at(lines, q, j), sort) | r;
-    }
-    r
-}
-
-// The variable of a target, as a set.
-fn target_var(target: Loc) -> u32
-    requires { ⌜ LowLoc target ⌝ }
-    ensures { λ r. ⌜ r ≡ maskOf (usedIn (Value target)) ⌝ }
-{
-    match target {
-        Loc::At(_) => 0,
-        Loc::Here => 0,
-        Loc::Use(u) => sets::single(u.0),
-    }
-}
-
-// The free variables of line q: those of its target and its fields, and those of the line that follows that are not bound.
-fn with_fields(lines: &[u8; 2560], q: u8, target: Loc, count: u8, binds: u8, rest: u32) -> u32
-    requires { ⌜ LowLoc target × (count ≤ 4) × (binds ≤ 4) × (length (now lines) ≡ 2560) ⌝ }
-    ensures { λ r. ⌜ r ≡ join (join (maskOf (usedIn (Value target))) (joins (varIn 2) (take count (fieldBytes (now (lines .entry)) q)))) (less rest (joins (varIn 3) (take binds (fieldBytes (now (lines .entry)) q)))) ⌝ }
-{
-    let own = target_var(target);
-    let used = vars_in(lines, q, count, USED);
-    let bound = vars_in(lines, q, binds, BOUND);
-    (own | used) | (rest ^ (rest & bound))
-}
-
-// The free variables of two lines, and of a target.
-fn of_both(target: Loc, a: u32, b: u32) -> u32
-    requires { ⌜ LowLoc target ⌝ }
-    ensures { λ r. ⌜ r ≡ join (maskOf (usedIn (Value target))) (join a b) ⌝ }
-{
-    let own = target_var(target);
-    own | (a | b)
-}
-
-// Where a line names variables: the line that follows, a target, how many fields, and how many of these may bind;
-// or two lines and a target.
-enum Names {
-    Ends,
-    Follows(u8),
-    Fields(u8, Loc, u8, u8),
-    Forks(u8, u8, Loc),
-}
-
-fn names_of(action: Action) -> Names
-    ensures { λ r. ⌜ r ≡ namesOf action ⌝ }
-{
-    match action {
-        Action::Nil => Names::Ends,
-        Action::Par { next, second } => Names::Forks(next, second, Loc::Here),
-        Action::Rep { next } => Names::Follows(next),
-        Action::Out {
-            next,
-            target,
-            count,
-        } => Names::Fields(next, target, count, 0),
-        Action::In {
-            next,
-            target,
-            count,
-        } => Names::Fields(next, target, count, count),
-        Action::Read {
-            next,
-            target,
-            count,
-        } => Names::Fields(next, target, count, count),
-        Action::Eval {
-            next,
-            target,
-            body,
-            sandbox: _,
-        } => Names::Forks(body, next, target),
-        Action::Accept { next, sandbox: _ } => Names::Follows(next),
-    }
-}
-
-// The free variables of the process of line q. Children have greater numbers: 256 less q falls.
-pub fn free_vars(lines: &[u8; 2560], n: usize, q: u8) -> u32
-    requires { ⌜ InForm n (now lines) q × (length (now lines) ≡ 2560) ⌝ }
-    ensures { λ r. ⌜ r ≡ maskOf (free (tree (linesView n (now (lines .entry))) q)) ⌝ }
-{
-    let names = names_of(tables::action_at(lines, q));
-    match names {
-        Names::Ends => 0,
-        Names::Follows(next) => free_vars(lines, n, next),
-        Names::Fields(next, target, count, binds) => {
-            let rest = free_vars(lines, n, next);
-            with_fields(lines, q, target, count, binds, rest)
-        }
-        Names::Forks(first, second, target) => {
-            let a = free_vars(lines, n, first);
-            let b = free_vars(lines, n, second);
-            of_both(target, a, b)
-        }
-    }
-}
-
-// Whether the process of line q has no free variable.
-pub fn closed(lines: &[u8; 2560], n: usize, q: u8) -> bool
-    requires { ⌜ InForm n (now lines) q × (length (now lines) ≡ 2560) ⌝ }
-    ensures { λ r. ⌜ r ≡ empty (free (tree (linesView n (now (lines .entry))) q)) ⌝ }
-{
-    free_vars(lines, n, q) == 0
-}
-
-// Whether no root has a free variable.
-pub fn roots_closed(lines: &[u8; 2560], n: usize, roots: &[u8; 128], m: usize) -> bool
-    requires { ⌜ Rooted n (now lines) m (now roots) ⌝ }
-    ensures { λ r. ⌜ r ≡ rootsClosed (linesView n (now (lines .entry))) (map (λ x. x .line) (rootsView m (now (roots .entry)))) ⌝ }
-{
-    let mut i: usize = 0;
-    while i < m {
-        if closed(lines, n, roots[2 * i + 1]) {
-            i += 1;
-        } else {
-            return false;
-        }
-    }
-    true
-}
-
 // Whether a child of line q is greater than q and one of the n lines.
 fn child_fits(q: usize, n: usize, child: u8) -> bool
     ensures { λ r. ⌜ r ≡ ltb q child & ltb child n ⌝ }
@@ -360,4 +213,151 @@ pub fn named_once(lines: &[u8; 2560], n: usize, roots: &[u8; 128], m: usize) -> 
 {
     let counts = named_roots(roots, m);
     named_once_from(lines, n, counts)
+}
+
+// The sorts of a field's byte that name a variable: u, and `!u`.
+const USED: u8 = 2;
+
+const BOUND: u8 = 3;
+
+// The variable of a field's byte as a set, if the byte has this sort.
+fn var_of(code: u8, sort: u8) -> u32
+    ensures { λ r. ⌜ r ≡ varIn sort code ⌝ }
+{
+    if code / tables::SORT % 4 == sort {
+        return sets::single(code % tables::SORT);
+    }
+    0
+}
+
+// The variables of this sort in the first fields of line q.
+fn vars_in(lines: &[u8; 2560], q: u8, count: u8, sort: u8) -> u32
+    requires { ⌜ (count ≤ 4) × (length (now lines) ≡ 2560) ⌝ }
+    ensures { λ r. ⌜ r ≡ joins (varIn sort) (take count (fieldBytes (now (lines .entry)) q)) ⌝ }
+{
+    let mut r: u32 = 0;
+    let mut j: u8 = count;
+    while 0 < j {
+        j -= 1;
+        r = var_of(tables::field_at(lines, q, j), sort) | r;
+    }
+    r
+}
+
+// The variable of a target, as a set.
+fn target_var(target: Loc) -> u32
+    requires { ⌜ LowLoc target ⌝ }
+    ensures { λ r. ⌜ r ≡ maskOf (usedIn (Value target)) ⌝ }
+{
+    match target {
+        Loc::At(_) => 0,
+        Loc::Here => 0,
+        Loc::Use(u) => sets::single(u.0),
+    }
+}
+
+// The free variables of line q: those of its target and its fields, and those of the line that follows that are not bound.
+fn with_fields(lines: &[u8; 2560], q: u8, target: Loc, count: u8, binds: u8, rest: u32) -> u32
+    requires { ⌜ LowLoc target × (count ≤ 4) × (binds ≤ 4) × (length (now lines) ≡ 2560) ⌝ }
+    ensures { λ r. ⌜ r ≡ join (join (maskOf (usedIn (Value target))) (joins (varIn 2) (take count (fieldBytes (now (lines .entry)) q)))) (less rest (joins (varIn 3) (take binds (fieldBytes (now (lines .entry)) q)))) ⌝ }
+{
+    let own = target_var(target);
+    let used = vars_in(lines, q, count, USED);
+    let bound = vars_in(lines, q, binds, BOUND);
+    (own | used) | (rest ^ (rest & bound))
+}
+
+// The free variables of two lines, and of a target.
+fn of_both(target: Loc, a: u32, b: u32) -> u32
+    requires { ⌜ LowLoc target ⌝ }
+    ensures { λ r. ⌜ r ≡ join (maskOf (usedIn (Value target))) (join a b) ⌝ }
+{
+    let own = target_var(target);
+    own | (a | b)
+}
+
+// Where a line names variables: the line that follows, a target, how many fields, and how many of these may bind;
+// or two lines and a target.
+enum Names {
+    Ends,
+    Follows(u8),
+    Fields(u8, Loc, u8, u8),
+    Forks(u8, u8, Loc),
+}
+
+fn names_of(action: Action) -> Names
+    ensures { λ r. ⌜ r ≡ namesOf action ⌝ }
+{
+    match action {
+        Action::Nil => Names::Ends,
+        Action::Par { next, second } => Names::Forks(next, second, Loc::Here),
+        Action::Rep { next } => Names::Follows(next),
+        Action::Out {
+            next,
+            target,
+            count,
+        } => Names::Fields(next, target, count, 0),
+        Action::In {
+            next,
+            target,
+            count,
+        } => Names::Fields(next, target, count, count),
+        Action::Read {
+            next,
+            target,
+            count,
+        } => Names::Fields(next, target, count, count),
+        Action::Eval {
+            next,
+            target,
+            body,
+            sandbox: _,
+        } => Names::Forks(body, next, target),
+        Action::Accept { next, sandbox: _ } => Names::Follows(next),
+    }
+}
+
+// The free variables of the process of line q. Children have greater numbers: 256 less q falls.
+pub fn free_vars(lines: &[u8; 2560], n: usize, q: u8) -> u32
+    requires { ⌜ InForm n (now lines) q × (length (now lines) ≡ 2560) ⌝ }
+    ensures { λ r. ⌜ r ≡ maskOf (free (tree (linesView n (now (lines .entry))) q)) ⌝ }
+{
+    let names = names_of(tables::action_at(lines, q));
+    match names {
+        Names::Ends => 0,
+        Names::Follows(next) => free_vars(lines, n, next),
+        Names::Fields(next, target, count, binds) => {
+            let rest = free_vars(lines, n, next);
+            with_fields(lines, q, target, count, binds, rest)
+        }
+        Names::Forks(first, second, target) => {
+            let a = free_vars(lines, n, first);
+            let b = free_vars(lines, n, second);
+            of_both(target, a, b)
+        }
+    }
+}
+
+// Whether the process of line q has no free variable.
+pub fn closed(lines: &[u8; 2560], n: usize, q: u8) -> bool
+    requires { ⌜ InForm n (now lines) q × (length (now lines) ≡ 2560) ⌝ }
+    ensures { λ r. ⌜ r ≡ empty (free (tree (linesView n (now (lines .entry))) q)) ⌝ }
+{
+    free_vars(lines, n, q) == 0
+}
+
+// Whether no root has a free variable. Where each line is named once, each is walked once.
+pub fn roots_closed(lines: &[u8; 2560], n: usize, roots: &[u8; 128], m: usize) -> bool
+    requires { ⌜ Rooted n (now lines) m (now roots) ⌝ }
+    ensures { λ r. ⌜ r ≡ rootsClosed (linesView n (now (lines .entry))) (map (λ x. x .line) (rootsView m (now (roots .entry)))) ⌝ }
+{
+    let mut i: usize = 0;
+    while i < m {
+        if closed(lines, n, roots[2 * i + 1]) {
+            i += 1;
+        } else {
+            return false;
+        }
+    }
+    true
 }

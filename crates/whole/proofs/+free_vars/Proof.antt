@@ -1,3 +1,5 @@
+-- `free_vars` meets its contract: at each action the set is what the definition says of the line's process. 256 less the line number falls.
+-- Assumes nothing.
 use mathlib.Core.Path.{_∙_}
 use native.Mathlib.Omega.{arith}
 use Rattle.whole.proofs.Free.{below-at, freeBy, fields-step, forks-step, free-at}

@@ -1,5 +1,5 @@
 use mathlib.Core.Path.{_≡_, refl, sym, _∙_}
-use Prim.Native.Nat.{ℕ, suc, _+_, _-_, _≤_}
+use Prim.Native.Nat.{suc, _+_, _-_, _≤_}
 use native.Mathlib.Omega.{arith}
 use lib.Dec.{eqb}
 use lib.ListN.{drop, getD}
@@ -9,8 +9,6 @@ use Rattle.matching.proofs.Laws.{all-yes, all-no, all-end}
 use borrow.Author.Needs.{needs}
 use Rattle.whole.proofs.all_one.Statement.{statement}
 use Rattle.whole.proofs.all_one.Tie as tie
-use Rattle.whole.proofs.all_one.Reads as reads
-use Rattle.whole.proofs.all_one.Lts as lts
 
 abbrev Inv-loop : tie.InvT-loop
 Inv-loop counts n q₀ q = (q ≤ n) × (all (λ q. eqb (getD counts q 0) 1) (table n (λ j. j)) ≡ all (λ q. eqb (getD counts q 0) 1) (drop q (table n (λ j. j))))

@@ -5,9 +5,6 @@ use Rattle.whole.proofs.Order.{fit-yes, fit-no}
 use borrow.Author.Needs.{needs}
 use Rattle.whole.proofs.child_fits.Statement.{statement}
 use Rattle.whole.proofs.child_fits.Tie as tie
-use Rattle.whole.proofs.child_fits.Reads as reads
-use Rattle.whole.proofs.child_fits.Lts as lts
-use Rattle.matching.proofs.wide.Reads as wide-reads
 
 wide-requires : tie.Need-wide-requires
 wide-requires c κs = search needs

@@ -3,10 +3,6 @@ use Rattle.klaim.specs.Process.{children}
 use borrow.Author.Needs.{needs}
 use Rattle.whole.proofs.children_at.Statement.{statement}
 use Rattle.whole.proofs.children_at.Tie as tie
-use Rattle.whole.proofs.children_at.Reads as reads
-use Rattle.whole.proofs.children_at.Lts as lts
-use Rattle.tables.proofs.action_at.Reads as action-at-reads
-use Rattle.whole.proofs.children_of.Reads as children-of-reads
 
 action-at-requires : tie.Need-action-at-requires
 action-at-requires c κs = search needs

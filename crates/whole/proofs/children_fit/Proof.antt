@@ -3,9 +3,6 @@ use Rattle.whole.proofs.Order.{test-none, test-one, test-both, test-not
 use borrow.Author.Needs.{needs}
 use Rattle.whole.proofs.children_fit.Statement.{statement}
 use Rattle.whole.proofs.children_fit.Tie as tie
-use Rattle.whole.proofs.children_fit.Reads as reads
-use Rattle.whole.proofs.children_fit.Lts as lts
-use Rattle.whole.proofs.child_fits.Reads as child-fits-reads
 
 enum-told : tie.Need-enum-told
 enum-told c = search needs

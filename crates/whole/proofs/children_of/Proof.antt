@@ -4,8 +4,6 @@ use Rattle.whole.specs.Children.{listOf}
 use borrow.Author.Needs.{needs}
 use Rattle.whole.proofs.children_of.Statement.{statement}
 use Rattle.whole.proofs.children_of.Tie as tie
-use Rattle.whole.proofs.children_of.Reads as reads
-use Rattle.whole.proofs.children_of.Lts as lts
 
 enum-told : tie.Need-enum-told
 enum-told c = search needs

@@ -5,9 +5,6 @@ use Rattle.whole.proofs.Free.{mask-empty}
 use borrow.Author.Needs.{needs}
 use Rattle.whole.proofs.closed.Statement.{statement}
 use Rattle.whole.proofs.closed.Tie as tie
-use Rattle.whole.proofs.closed.Reads as reads
-use Rattle.whole.proofs.closed.Lts as lts
-use Rattle.whole.proofs.free_vars.Reads as free-vars-reads
 
 free-vars-requires : tie.Need-free-vars-requires
 free-vars-requires c κs = search needs

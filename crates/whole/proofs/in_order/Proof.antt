@@ -1,18 +1,14 @@
 use mathlib.Core.Path.{_≡_, refl, sym, ap, _∙_}
-use Prim.Native.Nat.{ℕ, suc, _≤_, _-_, _+_, _*_}
+use Prim.Native.Nat.{suc, _≤_, _-_, _+_}
 use native.Mathlib.Omega.{arith}
 use lib.Dec.{ltb}
-use lib.ListN.{drop, getD}
+use lib.ListN.{drop}
 use Rattle.sets.specs.Lists.{_&_, all, table}
 use Rattle.whole.proofs.Order.{fits, order-all}
 use Rattle.matching.proofs.Laws.{all-yes, all-no, all-end}
 use borrow.Author.Needs.{needs}
 use Rattle.whole.proofs.in_order.Statement.{statement}
 use Rattle.whole.proofs.in_order.Tie as tie
-use Rattle.whole.proofs.in_order.Reads as reads
-use Rattle.whole.proofs.in_order.Lts as lts
-use Rattle.whole.proofs.children_at.Reads as children-at-reads
-use Rattle.whole.proofs.children_fit.Reads as children-fit-reads
 
 abbrev Inv-loop : tie.InvT-loop
 Inv-loop lines n q₀ q = (q ≤ n) × (all (fits lines n) (table n (λ j. j)) ≡ all (fits lines n) (drop q (table n (λ j. j))))

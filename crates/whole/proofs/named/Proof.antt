@@ -3,9 +3,6 @@ use Rattle.whole.proofs.Counts.{named-more}
 use borrow.Author.Needs.{needs}
 use Rattle.whole.proofs.named.Statement.{statement}
 use Rattle.whole.proofs.named.Tie as tie
-use Rattle.whole.proofs.named.Reads as reads
-use Rattle.whole.proofs.named.Lts as lts
-use Rattle.whole.proofs.one_more.Reads as one-more-reads
 
 element-copy-out-one-more : tie.Need-element-copy-out-one-more
 element-copy-out-one-more c = search needs

@@ -2,9 +2,6 @@ use Rattle.whole.proofs.Counts.{children-none, children-one, children-t
 use borrow.Author.Needs.{needs}
 use Rattle.whole.proofs.named_children.Statement.{statement}
 use Rattle.whole.proofs.named_children.Tie as tie
-use Rattle.whole.proofs.named_children.Reads as reads
-use Rattle.whole.proofs.named_children.Lts as lts
-use Rattle.whole.proofs.named.Reads as named-reads
 
 enum-told : tie.Need-enum-told
 enum-told c = search needs

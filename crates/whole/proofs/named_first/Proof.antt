@@ -3,9 +3,6 @@ use Rattle.whole.proofs.Counts.{none-named, first-named}
 use borrow.Author.Needs.{needs}
 use Rattle.whole.proofs.named_first.Statement.{statement}
 use Rattle.whole.proofs.named_first.Tie as tie
-use Rattle.whole.proofs.named_first.Reads as reads
-use Rattle.whole.proofs.named_first.Lts as lts
-use Rattle.whole.proofs.named.Reads as named-reads
 
 named-requires : tie.Need-named-requires
 named-requires c κs = search needs

@@ -10,10 +10,6 @@ use Rattle.whole.proofs.Counts.{lines-none, lines-more}
 use borrow.Author.Needs.{needs}
 use Rattle.whole.proofs.named_lines.Statement.{statement}
 use Rattle.whole.proofs.named_lines.Tie as tie
-use Rattle.whole.proofs.named_lines.Reads as reads
-use Rattle.whole.proofs.named_lines.Lts as lts
-use Rattle.whole.proofs.children_at.Reads as children-at-reads
-use Rattle.whole.proofs.named_children.Reads as named-children-reads
 
 abbrev Inv-loop : tie.InvT-loop
 Inv-loop counts₀ lines n q₀ counts q = (q ≤ n) × ((xs : List ℕ) → Counted xs counts₀ → Counted (xs ∪ concat children (table q (lineOf lines))) counts)

@@ -1,10 +1,6 @@
 use borrow.Author.Needs.{needs}
 use Rattle.whole.proofs.named_once.Statement.{statement}
 use Rattle.whole.proofs.named_once.Tie as tie
-use Rattle.whole.proofs.named_once.Reads as reads
-use Rattle.whole.proofs.named_once.Lts as lts
-use Rattle.whole.proofs.named_once_from.Reads as named-once-from-reads
-use Rattle.whole.proofs.named_roots.Reads as named-roots-reads
 
 named-roots-requires : tie.Need-named-roots-requires
 named-roots-requires c κs = search needs

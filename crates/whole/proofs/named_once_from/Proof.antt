@@ -3,10 +3,6 @@ use Rattle.whole.proofs.Counts.{once-by}
 use borrow.Author.Needs.{needs}
 use Rattle.whole.proofs.named_once_from.Statement.{statement}
 use Rattle.whole.proofs.named_once_from.Tie as tie
-use Rattle.whole.proofs.named_once_from.Reads as reads
-use Rattle.whole.proofs.named_once_from.Lts as lts
-use Rattle.whole.proofs.all_one.Reads as all-one-reads
-use Rattle.whole.proofs.named_lines.Reads as named-lines-reads
 
 named-lines-requires : tie.Need-named-lines-requires
 named-lines-requires c κs = search needs

@@ -1,5 +1,5 @@
 use mathlib.Core.Path.{_≡_}
-use Prim.Native.Nat.{ℕ, suc, _+_, _-_, _≤_}
+use Prim.Native.Nat.{suc, _+_, _-_, _≤_}
 use native.Mathlib.Omega.{arith}
 use Rattle.tables.specs.View.{rootsView}
 use Rattle.whole.specs.Counted.{Counted}
@@ -7,9 +7,6 @@ use Rattle.whole.proofs.Counts.{rootLines, none-named, roots-none, root
 use borrow.Author.Needs.{needs}
 use Rattle.whole.proofs.named_roots.Statement.{statement}
 use Rattle.whole.proofs.named_roots.Tie as tie
-use Rattle.whole.proofs.named_roots.Reads as reads
-use Rattle.whole.proofs.named_roots.Lts as lts
-use Rattle.whole.proofs.named.Reads as named-reads
 
 abbrev Inv-loop : tie.InvT-loop
 Inv-loop roots m counts₀ i₀ counts i = (i ≤ m) × Counted (rootLines i roots) counts

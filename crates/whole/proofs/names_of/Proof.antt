@@ -2,8 +2,6 @@ use Rattle.whole.specs.Free.{namesOf}
 use borrow.Author.Needs.{needs}
 use Rattle.whole.proofs.names_of.Statement.{statement}
 use Rattle.whole.proofs.names_of.Tie as tie
-use Rattle.whole.proofs.names_of.Reads as reads
-use Rattle.whole.proofs.names_of.Lts as lts
 
 enum-told : tie.Need-enum-told
 enum-told c = search needs

@@ -2,9 +2,6 @@ use Rattle.sets.specs.Bits.{join}
 use borrow.Author.Needs.{needs}
 use Rattle.whole.proofs.of_both.Statement.{statement}
 use Rattle.whole.proofs.of_both.Tie as tie
-use Rattle.whole.proofs.of_both.Reads as reads
-use Rattle.whole.proofs.of_both.Lts as lts
-use Rattle.whole.proofs.target_var.Reads as target-var-reads
 
 target-var-requires : tie.Need-target-var-requires
 target-var-requires c κs = search needs

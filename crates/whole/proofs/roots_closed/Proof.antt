@@ -1,18 +1,14 @@
-use mathlib.Core.Path.{_≡_, refl, sym, ap, _∙_}
-use Prim.Native.Nat.{ℕ, suc, _≤_, _-_, _+_, _*_}
+use mathlib.Core.Path.{_≡_, refl, sym, _∙_}
+use Prim.Native.Nat.{suc, _≤_, _-_, _+_}
 use native.Mathlib.Omega.{arith}
-use lib.Dec.{ltb}
-use lib.ListN.{drop, getD}
-use Rattle.sets.specs.Lists.{_&_, all, table}
+use lib.ListN.{drop}
+use Rattle.sets.specs.Lists.{all, table}
 use Rattle.tables.specs.View.{rootAt}
 use Rattle.whole.proofs.Order.{closedRoot, closed-all, root-form}
 use Rattle.matching.proofs.Laws.{all-yes, all-no, all-end}
 use borrow.Author.Needs.{needs}
 use Rattle.whole.proofs.roots_closed.Statement.{statement}
 use Rattle.whole.proofs.roots_closed.Tie as tie
-use Rattle.whole.proofs.roots_closed.Reads as reads
-use Rattle.whole.proofs.roots_closed.Lts as lts
-use Rattle.whole.proofs.closed.Reads as closed-reads
 
 abbrev Inv-loop : tie.InvT-loop
 Inv-loop lines n roots m i₀ i = (i ≤ m) × (all (closedRoot n lines) (table m (rootAt roots)) ≡ all (closedRoot n lines) (drop i (table m (rootAt roots))))

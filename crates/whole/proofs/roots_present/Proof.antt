@@ -1,9 +1,9 @@
-use mathlib.Core.Path.{_≡_, refl, sym, ap, _∙_}
-use Prim.Native.Nat.{ℕ, suc, _≤_, _-_, _+_, _*_}
+use mathlib.Core.Path.{_≡_, refl, sym, _∙_}
+use Prim.Native.Nat.{suc, _≤_, _-_, _+_}
 use native.Mathlib.Omega.{arith}
 use lib.Dec.{ltb}
-use lib.ListN.{drop, getD}
-use Rattle.sets.specs.Lists.{_&_, all, table}
+use lib.ListN.{drop}
+use Rattle.sets.specs.Lists.{all, table}
 use borrow.Author.Tests.{lt-ltb, le-ltb}
 use Rattle.klaim.specs.Net.{Root}
 use Rattle.tables.specs.View.{rootAt}
@@ -12,9 +12,6 @@ use Rattle.matching.proofs.Laws.{all-yes, all-no, all-end}
 use borrow.Author.Needs.{needs}
 use Rattle.whole.proofs.roots_present.Statement.{statement}
 use Rattle.whole.proofs.roots_present.Tie as tie
-use Rattle.whole.proofs.roots_present.Reads as reads
-use Rattle.whole.proofs.roots_present.Lts as lts
-use Rattle.matching.proofs.wide.Reads as wide-reads
 
 abbrev Inv-loop : tie.InvT-loop
 Inv-loop roots m n i₀ i = (i ≤ m) × (all (λ (x : Root). ltb (x .line) n) (table m (rootAt roots)) ≡ all (λ (x : Root). ltb (x .line) n) (drop i (table m (rootAt roots))))

@@ -4,9 +4,6 @@ use Rattle.whole.proofs.Free.{target-site, target-here, target-use}
 use borrow.Author.Needs.{needs}
 use Rattle.whole.proofs.target_var.Statement.{statement}
 use Rattle.whole.proofs.target_var.Tie as tie
-use Rattle.whole.proofs.target_var.Reads as reads
-use Rattle.whole.proofs.target_var.Lts as lts
-use Rattle.sets.proofs.single.Reads as single-reads
 
 enum-told : tie.Need-enum-told
 enum-told c = search needs

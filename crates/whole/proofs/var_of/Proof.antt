@@ -5,9 +5,6 @@ use Rattle.whole.specs.Free.{varIn}
 use borrow.Author.Needs.{needs}
 use Rattle.whole.proofs.var_of.Statement.{statement}
 use Rattle.whole.proofs.var_of.Tie as tie
-use Rattle.whole.proofs.var_of.Reads as reads
-use Rattle.whole.proofs.var_of.Lts as lts
-use Rattle.sets.proofs.single.Reads as single-reads
 
 single-requires : tie.Need-single-requires
 single-requires c κs = search needs

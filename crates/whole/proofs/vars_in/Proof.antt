@@ -10,10 +10,6 @@ use Rattle.whole.proofs.Free.{joins-end, joins-down}
 use borrow.Author.Needs.{needs}
 use Rattle.whole.proofs.vars_in.Statement.{statement}
 use Rattle.whole.proofs.vars_in.Tie as tie
-use Rattle.whole.proofs.vars_in.Reads as reads
-use Rattle.whole.proofs.vars_in.Lts as lts
-use Rattle.tables.proofs.field_at.Reads as field-at-reads
-use Rattle.whole.proofs.var_of.Reads as var-of-reads
 
 abbrev Inv-loop : tie.InvT-loop
 Inv-loop lines q count sort r₀ j₀ r j = (j ≤ count) × (r ≡ joins (varIn sort) (drop j (take count (fieldBytes lines q))))

@@ -2,10 +2,6 @@ use Rattle.sets.specs.Bits.{join, less, meet}
 use borrow.Author.Needs.{needs}
 use Rattle.whole.proofs.with_fields.Statement.{statement}
 use Rattle.whole.proofs.with_fields.Tie as tie
-use Rattle.whole.proofs.with_fields.Reads as reads
-use Rattle.whole.proofs.with_fields.Lts as lts
-use Rattle.whole.proofs.target_var.Reads as target-var-reads
-use Rattle.whole.proofs.vars_in.Reads as vars-in-reads
 
 target-var-requires : tie.Need-target-var-requires
 target-var-requires c κs = search needs
