@@ -28,7 +28,7 @@ use Rattle.tables.specs.View.{locOf, slotOf, fieldBytes, linesView, actionLine,
 use Rattle.tables.proofs.Lines.{tree-at, Child, Next, next}
 use Rattle.whole.specs.declared.Names.{Names}
 use Rattle.whole.specs.declared.Names.the-variants.{Ends, Follows, Fields, Forks}
-use Rattle.whole.specs.Free.{maskOf, varIn, namesOf}
+use Rattle.whole.specs.Free.{maskOf, varIn, freeFields, freeForks, namesOf}
 use Rattle.whole.proofs.Order.{and-true}
 
 -- the set of one number has that number alone
@@ -203,8 +203,8 @@ below-of n bs q (Accept a k) h = (h .0, tt)
 unfoldable pub freeBy : (ℕ → Tree) → List ℕ → Names → ℕ
 freeBy f cs Ends = 0
 freeBy f cs (Follows a) = maskOf (free (f a))
-freeBy f cs (Fields a g k m) = join (join (maskOf (usedIn (Value g))) (joins (varIn 2) (take k cs))) (less (maskOf (free (f a))) (joins (varIn 3) (take m cs)))
-freeBy f cs (Forks a b g) = join (maskOf (usedIn (Value g))) (join (maskOf (free (f a))) (maskOf (free (f b))))
+freeBy f cs (Fields a g k m) = freeFields g k m cs (maskOf (free (f a)))
+freeBy f cs (Forks a b g) = freeForks g (maskOf (free (f a))) (maskOf (free (f b)))
 
 -- the free variables of `in` and `read`
 get-free : (q r : ℕ) (g : Loc) (cs : List ℕ) (a : Tree) → join (join (maskOf (usedIn (Value g))) (joins (varIn 2) cs)) (less (maskOf (free a)) (joins (varIn 3) cs)) ≡ maskOf (free (getT q r g (map slotOf cs) a))
@@ -229,7 +229,7 @@ out-free q g cs a =
     mask-values cs = ap (λ (l : List Slot). maskOf (concat usedIn l)) (map-map cs) ∙ mask-fields usedIn (λ c. Value (locOf c)) 2 used-loc cs
 
 free-of : (f : ℕ → Tree) (q : ℕ) (cs : List ℕ) (x : Action) → freeBy f cs (namesOf x) ≡ maskOf (free (node f q (actionLine x cs)))
-unfolding freeBy namesOf free node actionLine joins usedIn
+unfolding freeBy freeFields freeForks namesOf free node actionLine joins usedIn
 free-of f q cs Nil = sym mask-none
 free-of f q cs (Par a b) = ap (λ (m : ℕ). join m (join (maskOf (free (f a))) (maskOf (free (f b))))) mask-none ∙ join-none-l _ ∙ sym (mask-union (free (f a)) (free (f b)))
 free-of f q cs (Rep a) = refl
@@ -238,13 +238,6 @@ free-of f q cs (In a g k) = get-free q inBit g (take k cs) (f a)
 free-of f q cs (Read a g k) = get-free q readBit g (take k cs) (f a)
 free-of f q cs (Eval a g b k) = sym (mask-union (usedIn (Value g)) (free (f b) ∪ free (f a)) ∙ ap (join (maskOf (usedIn (Value g)))) (mask-union (free (f b)) (free (f a))))
 free-of f q cs (Accept a k) = refl
-
--- a line's free variables from those of the lines that follow
-pub fields-step : (A B x : ℕ) {y z : ℕ} → z ≡ join A (less x B) → x ≡ y → z ≡ join A (less y B)
-fields-step A B x e h = e ∙ ap (λ (x : ℕ). join A (less x B)) h
-
-pub forks-step : (A x u : ℕ) {y v z : ℕ} → z ≡ join A (join x u) → x ≡ y → u ≡ v → z ≡ join A (join y v)
-forks-step A x u e h i = e ∙ ap₂ (λ (x u : ℕ). join A (join x u)) h i
 
 -- line q by the variables that it names
 module _ {n : ℕ} {bs : List ℕ} {q : ℕ} (w : InForm n bs q) {r : Action} (d : Decoded bs q r) {p x : Names} (h : p ≡ namesOf r) (e : p ≡ x) where

@@ -5,12 +5,12 @@ ghost use Prim.Native.Nat.{ℕ, _+_, _<_, _≤_, min};
 ghost use lib.Dec.{eqb, ltb};
 ghost use lib.ListN.{length, take, getD};
 ghost use Rattle.sets.specs.Lists.{_&_, all, empty, concat, below, _∪_};
-ghost use Rattle.sets.specs.Bits.{join, less, joins};
+ghost use Rattle.sets.specs.Bits.{joins};
 ghost use Rattle.klaim.specs.declared.Slot.the-variants.{Value};
 ghost use Rattle.klaim.specs.Process.{children, usedIn, tree, ordered, free};
 ghost use Rattle.klaim.specs.Reader.{namedOnce, rootsClosed};
 ghost use Rattle.tables.specs.View.{lineOf, linesView, rootsView, fieldBytes, actionLine, LowLoc, InForm};
-ghost use Rattle.whole.specs.Free.{maskOf, varIn, namesOf};
+ghost use Rattle.whole.specs.Free.{maskOf, varIn, freeFields, freeForks, namesOf};
 ghost use Rattle.whole.specs.Children.{listOf};
 ghost use Rattle.whole.specs.Rooted.{Rooted};
 ghost use Rattle.whole.specs.Counted.{Counted};
@@ -259,7 +259,7 @@ fn target_var(target: Loc) -> u32
 // The free variables of line q: those of its target and its fields, and those of the line that follows that are not bound.
 fn with_fields(lines: &[u8; 2560], q: u8, target: Loc, count: u8, binds: u8, rest: u32) -> u32
     requires { ⌜ LowLoc target × (count ≤ 4) × (binds ≤ 4) × (length (now lines) ≡ 2560) ⌝ }
-    ensures { λ r. ⌜ r ≡ join (join (maskOf (usedIn (Value target))) (joins (varIn 2) (take count (fieldBytes (now (lines .entry)) q)))) (less rest (joins (varIn 3) (take binds (fieldBytes (now (lines .entry)) q)))) ⌝ }
+    ensures { λ r. ⌜ r ≡ freeFields target count binds (fieldBytes (now (lines .entry)) q) rest ⌝ }
 {
     let own = target_var(target);
     let used = vars_in(lines, q, count, USED);
@@ -270,7 +270,7 @@ fn with_fields(lines: &[u8; 2560], q: u8, target: Loc, count: u8, binds: u8, res
 // The free variables of two lines, and of a target.
 fn of_both(target: Loc, a: u32, b: u32) -> u32
     requires { ⌜ LowLoc target ⌝ }
-    ensures { λ r. ⌜ r ≡ join (maskOf (usedIn (Value target))) (join a b) ⌝ }
+    ensures { λ r. ⌜ r ≡ freeForks target a b ⌝ }
 {
     let own = target_var(target);
     own | (a | b)

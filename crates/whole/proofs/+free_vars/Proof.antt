@@ -1,8 +1,9 @@
 -- `free_vars` meets its contract: at each action the set is what the definition says of the line's process. 256 less the line number falls.
 -- Assumes nothing.
-use mathlib.Core.Path.{_∙_}
+use mathlib.Core.Path.{ap, ap₂, _∙_}
 use native.Mathlib.Omega.{arith}
-use Rattle.whole.proofs.Free.{below-at, freeBy, fields-step, forks-step, free-at}
+use Rattle.whole.specs.Free.{freeFields, freeForks}
+use Rattle.whole.proofs.Free.{below-at, freeBy, free-at}
 use borrow.Author.Needs.{needs}
 use Prim.Native.Nat.{ℕ, _<_, _-_}
 use borrow.Fn.Kinds.{In}
@@ -126,7 +127,7 @@ free-vars-returns-3 t c =
     let d = c .before .before .before .before .before .before .action-at .ensures in
     let h = c .before .before .before .before .before .names-of .ensures in
     let e = c .before .before .before .names2 .given .1 in
-    fields-step _ _ _ (c .with-fields .ensures) (c .before .free-vars2 .ensures) ∙ free-at (s .pre .1 .0) d h e
+    c .with-fields .ensures ∙ ap (freeFields _ _ _ _) (c .before .free-vars2 .ensures) ∙ free-at (s .pre .1 .0) d h e
 
 free-vars-returns-4 : (t : ℕ) → free-vars-lts.Need-returns-4 (claims t) (free-vars-at t) free-vars.Post
 unfolding freeBy
@@ -135,7 +136,7 @@ free-vars-returns-4 t c =
     let d = c .before .before .before .before .before .before .before .action-at .ensures in
     let h = c .before .before .before .before .before .before .names-of .ensures in
     let e = c .before .before .before .before .names3 .given .1 in
-    forks-step _ _ _ (c .of-both .ensures) (c .before .before .free-vars3 .ensures) (c .before .free-vars4 .ensures) ∙ free-at (s .pre .1 .0) d h e
+    c .of-both .ensures ∙ ap₂ (freeForks _) (c .before .before .free-vars3 .ensures) (c .before .free-vars4 .ensures) ∙ free-at (s .pre .1 .0) d h e
 
 pub +free-vars-spec : {M : Type 1} → statement M
 +free-vars-spec = close μ-free-vars λ t. free-vars-lts.spec (claims t)

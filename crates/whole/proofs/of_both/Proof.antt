@@ -1,3 +1,4 @@
+use Rattle.whole.specs.Free.{freeForks}
 use Rattle.sets.specs.Bits.{join}
 use borrow.Author.Needs.{needs}
 use Rattle.whole.proofs.of_both.Statement.{statement}
@@ -7,7 +8,7 @@ target-var-requires : tie.Need-target-var-requires
 target-var-requires c κs = search needs
 
 returns : tie.Need-returns
-unfolding join
+unfolding freeForks join
 returns c = cc
 
 pub of-both-spec : {M : Type 1} → statement M

@@ -1,3 +1,4 @@
+use Rattle.whole.specs.Free.{freeFields}
 use Rattle.sets.specs.Bits.{join, less, meet}
 use borrow.Author.Needs.{needs}
 use Rattle.whole.proofs.with_fields.Statement.{statement}
@@ -13,7 +14,7 @@ vars-in-requires-2 : tie.Need-vars-in-requires-2
 vars-in-requires-2 c κs = search needs
 
 returns : tie.Need-returns
-unfolding join less meet
+unfolding freeFields join less meet
 returns c = rw (c .before .before .target-var .ensures, c .before .vars-in .ensures, c .vars-in2 .ensures)
 
 pub with-fields-spec : {M : Type 1} → statement M
