@@ -77,7 +77,7 @@ less-none : (a : ℕ) → less a 0 ≡ a
 less-none a = same-bits _ _ (λ n. has-rest a 0 n ∙ ap (λ (b : Bool). has a (2 ^ n) & not b) (has-none n) ∙ and-true (has a (2 ^ n)))
 
 -- the set of a list has its elements
-mask-has : (xs : List ℕ) (n : ℕ) → has (maskOf xs) (2 ^ n) ≡ among xs n
+pub mask-has : (xs : List ℕ) (n : ℕ) → has (maskOf xs) (2 ^ n) ≡ among xs n
 unfolding maskOf joins among any
 mask-has [] n = has-none n
 mask-has (x ∷ xs) n = has-or (2 ^ x) (maskOf xs) n ∙ ap₂ either (has-one x n) (mask-has xs n)
