@@ -10,9 +10,8 @@ use native.Mathlib.Numerals.{add-one}
 use lib.ListN.{length, getD, getElem?, set, take, drop, length-take, length-drop, length-set}
 use lib.Seq.{getD-take, getD-drop, getD-set-same, getD-set-other, ext-getD}
 use Rattle.sets.specs.Lists.{splice, table}
-use Rattle.sets.proofs.Tables.{getD-table, length-table, same-table}
+use Rattle.sets.proofs.Tables.{getD-table, length-table, same-table, table-snoc}
 use Rattle.tables.specs.View.{rowAt, rowsView}
-use Rattle.matching.proofs.Laws.{table-snoc}
 use Rattle.threads.proofs.Splice.{get-some, get-none, splice-long, splice-low, splice-high}
 
 -- the tuple in six bytes of a table

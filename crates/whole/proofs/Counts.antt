@@ -12,14 +12,13 @@ use lib.Seq.{getD-set-same, getD-set-other}
 use borrow.Author.Tests.{ne-eqb}
 use Rattle.sets.specs.Lists.{Elem, first, later, _&_, all, only, keep, concat, table, tableFrom, below, count, _∪_}
 use Rattle.sets.proofs.Lists.{eq-eqb, union-append, length-keep, map-append}
-use Rattle.sets.proofs.Tables.{in-below}
+use Rattle.sets.proofs.Tables.{in-below, table-snoc}
 use Rattle.sets.proofs.Runs.{union-none, union-assoc, concat-append, concat-one}
 use Rattle.klaim.specs.Process.{children}
 use Rattle.klaim.specs.Net.{Root}
 use Rattle.klaim.specs.Reader.{namedOnce}
 use Rattle.tables.specs.View.{lineOf, linesView, rootAt}
 use Rattle.tables.proofs.Lines.{length-view}
-use Rattle.matching.proofs.Laws.{table-snoc}
 use Rattle.whole.specs.declared.Children.{Children}
 use Rattle.whole.specs.declared.Children.the-variants.{Zero, One, Two}
 use Rattle.whole.specs.Children.{listOf}

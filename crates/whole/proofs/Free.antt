@@ -14,7 +14,8 @@ use borrow.Author.Tests.{ne-eqb}
 use Rattle.sets.specs.Lists.{Elem, _&_, either, any, empty, concat, among, _∪_}
 use Rattle.sets.proofs.Lists.{iff, and-i, and-l, and-r, in-any, in-keep, keep-out, among-in, eq-eqb, eqb-eq}
 use Rattle.sets.specs.Bits.{inBit, readBit, has, join, meet, less, grant, joins}
-use Rattle.sets.proofs.Bits.{has-or, has-none, has-self, has-half, or-has-l, same-bits, join-none-l, join-none-r, join-assoc}
+use Rattle.sets.proofs.Bits.{has-or, has-none, has-self, has-half, or-has-l, same-bits}
+use Rattle.sets.proofs.Joins.{join-none, join-none-r, join-assoc}
 use Rattle.klaim.specs.declared.Site.{Site}
 use Rattle.klaim.specs.declared.Var.{Var}
 use Rattle.klaim.specs.declared.Loc.{Loc}
@@ -93,8 +94,8 @@ mask-none = refl
 
 mask-union : (xs ys : List ℕ) → maskOf (xs ∪ ys) ≡ join (maskOf xs) (maskOf ys)
 unfolding maskOf joins _∪_
-mask-union [] ys = sym (join-none-l (maskOf ys))
-mask-union (x ∷ xs) ys = ap (join (2 ^ x)) (mask-union xs ys) ∙ join-assoc (2 ^ x) (maskOf xs) (maskOf ys)
+mask-union [] ys = sym (join-none (maskOf ys))
+mask-union (x ∷ xs) ys = ap (join (2 ^ x)) (mask-union xs ys) ∙ sym (join-assoc (2 ^ x) (maskOf xs) (maskOf ys))
 
 in-among : {xs : List ℕ} {n : ℕ} → Elem n xs → among xs n ≡ true
 unfolding among
@@ -231,7 +232,7 @@ out-free q g cs a =
 free-of : (f : ℕ → Tree) (q : ℕ) (cs : List ℕ) (x : Action) → freeBy f cs (namesOf x) ≡ maskOf (free (node f q (actionLine x cs)))
 unfolding freeBy freeFields freeForks namesOf free node actionLine joins usedIn
 free-of f q cs Nil = sym mask-none
-free-of f q cs (Par a b) = ap (λ (m : ℕ). join m (join (maskOf (free (f a))) (maskOf (free (f b))))) mask-none ∙ join-none-l _ ∙ sym (mask-union (free (f a)) (free (f b)))
+free-of f q cs (Par a b) = ap (λ (m : ℕ). join m (join (maskOf (free (f a))) (maskOf (free (f b))))) mask-none ∙ join-none _ ∙ sym (mask-union (free (f a)) (free (f b)))
 free-of f q cs (Rep a) = refl
 free-of f q cs (Out a g k) = out-free q g (take k cs) (f a)
 free-of f q cs (In a g k) = get-free q inBit g (take k cs) (f a)
