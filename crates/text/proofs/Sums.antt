@@ -12,7 +12,7 @@ use lib.ListN.{length, getD, drop, drop-of-length-le}
 use lib.Seq.{drop-cons}
 use borrow.Author.Tests.{lt-ltb, le-ltb, leb-true}
 use Rattle.sets.specs.Lists.{_&_, either, imp, all, any, among, empty}
-use Rattle.sets.proofs.Lists.{all-at, any-eq, imp-e}
+use Rattle.sets.proofs.Lists.{all-at, among-in, imp-e}
 use Rattle.klaim.specs.Rows.{given, _>>=_, rightOf, rightsAfter, rightsField}
 use Rattle.text.specs.Fields.{rightsOf, bits}
 
@@ -30,11 +30,11 @@ module _ {A B : Type 0} where
 -- each right is at least twice any that stands before it
 bit-low : (r : ℕ) → among bits r ≡ true → r ≤ 16
 unfolding among all _&_
-bit-low r t = leb-true _ _ (all-at (λ x. leb x 16) (any-eq r bits t) refl)
+bit-low r t = leb-true _ _ (all-at (λ x. leb x 16) (among-in bits r t) refl)
 
 bit-double : (a b : ℕ) → among bits a ≡ true → among bits b ≡ true → a < b → 2 * a ≤ b
 unfolding among all _&_ imp
-bit-double a b s t h = leb-true _ _ (imp-e _ _ (all-at (λ y. imp (ltb a y) (leb (2 * a) y)) (any-eq b bits t) (all-at (λ x. all (λ y. imp (ltb x y) (leb (2 * x) y)) bits) (any-eq a bits s) refl)) (lt-ltb a b h))
+bit-double a b s t h = leb-true _ _ (imp-e _ _ (all-at (λ y. imp (ltb a y) (leb (2 * a) y)) (among-in bits b t) (all-at (λ x. all (λ y. imp (ltb x y) (leb (2 * x) y)) bits) (among-in bits a s) refl)) (lt-ltb a b h))
 
 -- one letter, behind the right `last`
 module _ (f : List ℕ) (i last r : ℕ) (h : i < length f) (q : rightsOf r ≡ rightOf (getD f i 0)) where
