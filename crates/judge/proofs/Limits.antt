@@ -106,8 +106,12 @@ plain-good r h =
     (cond-case (eqb (r .group) groupL) h)) (cond-case (eqb (r .group) groupD) h)) (cond-case (eqb (r .group) groupN) h)) (cond-case (tupleGroup (r .group)) h))
     (cond-case (pairGroup (r .group)) h)
 
+good-kind : (d : LineData) → lineGood d ≡ true → d .kind ≤ 8
+unfolding lineGood
+good-kind d h = leb-true (d .kind) 8 (and-l _ _ h)
+
 pub data Good (r : RowData) : Type 0 where
-  q-row : r .group ≡ groupQ → 0 < r .line .kind → Parts (r .line) → r .own < noNumber → Good r
+  q-row : r .group ≡ groupQ → 0 < r .line .kind → r .line .kind ≤ 8 → Parts (r .line) → r .own < noNumber → Good r
   plain-row : eqb (r .group) groupQ ≡ false → r .line .kind ≡ 0 → Plain r → Good r
 
 pub good : (r : RowData) → rowGood r ≡ true → 0 < r .group → Good r
@@ -118,7 +122,7 @@ good r G h = go (eqb (r .group) groupQ) refl (rw (ne-eqb (r .group) 0 (λ e. ome
     go true e g =
         let g2 = rw e at g in
         let k = ltb-true 0 (r .line .kind) (and-l _ _ g2) in
-        q-row (eqb-eq e) k (parts (r .line) (and-l _ _ (and-r _ _ g2)) k) (ltb-true (r .own) noNumber (and-r _ _ (and-r _ _ g2)))
+        q-row (eqb-eq e) k (good-kind (r .line) (and-l _ _ (and-r _ _ g2))) (parts (r .line) (and-l _ _ (and-r _ _ g2)) k) (ltb-true (r .own) noNumber (and-r _ _ (and-r _ _ g2)))
     go false e g = let g2 = rw e at g in plain-row e (eqb-eq (and-l _ _ g2)) (plain-good r (and-r _ _ g2))
 
 -- the sites of a row that is no Q row
@@ -148,7 +152,7 @@ module _ (most n : ℕ) (h : 1 ≤ most) where
 -- 4
 pub sites-are : (n : ℕ) {r : RowData} → Good r → lowNames 1 n (r .line) ≡ not (absent n (rowData r))
 unfolding absent rowData rowLine plainRow lowNames
-sites-are n {r} (q-row e k P o) =
+sites-are n {r} (q-row e k l P o) =
     rw (lt-ltb 0 (r .line .kind) k, none-reaches n (concat sitesIn (slotsOf (lineOf (r .line)))), all-concat (under n) sitesIn (slotsOf (lineOf (r .line)))) (sym (names-test (λ s. all (under n) (sitesIn s)) (lowName 1 n) (low-site n) (no-name 1 n) P))
 sites-are n {r} (plain-row e k P) = rw (k, none-reaches n (sitesTo (r .line .target) ∪ map (λ (m : Name). m .number) (names (r .line .fields)))) (sym (plain-names 1 n (omega arith) P))
 
@@ -210,5 +214,5 @@ plain-limits r e P =
 
 pub limits-are : {r : RowData} → Good r → rowLimits r ≡ inLimits (rowData r)
 unfolding rowLimits rowData lowSize lowVariable either imp _&_
-limits-are {r} (q-row e k P o) = rw (e, lt-ltb 0 (r .line .kind) k) (q-limits (r .own) P o)
+limits-are {r} (q-row e k l P o) = rw (e, lt-ltb 0 (r .line .kind) k) (q-limits (r .own) P o)
 limits-are {r} (plain-row e k P) = rw (le-ltb 0 (r .line .kind) (omega arith)) (plain-limits r e P)

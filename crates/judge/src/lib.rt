@@ -25,7 +25,7 @@ const NUMBERS: u16 = 32;
 const LINES: u16 = 256;
 
 // Whether the first n of four hold.
-fn every(n: usize, a: bool, b: bool, c: bool, d: bool) -> bool
+pub fn every(n: usize, a: bool, b: bool, c: bool, d: bool) -> bool
     ensures { λ r. ⌜ r ≡ firstOf n a b c d ⌝ }
 {
     match n {
