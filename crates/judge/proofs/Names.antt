@@ -87,14 +87,14 @@ pub record Parts (d : LineData) : Type 0 where
   pub fields-low : all (upTo 4) (names (d .fields)) ≡ true
 
 -- the parts of a line of a shape
-record Shape (a b c : Bool) (t f : ℕ) (d : LineData) : Type 0 where
-  next-is : present a (d .next) ≡ true
-  other-is : present b (d .other) ≡ true
-  sandbox-is : present c (d .sandbox) ≡ true
-  target-fits : nameFits t (d .target) ≡ true
-  fields-fits : fieldsFit f (d .fields) ≡ true
+pub record Shape (a b c : Bool) (t f : ℕ) (d : LineData) : Type 0 where
+  pub next-is : present a (d .next) ≡ true
+  pub other-is : present b (d .other) ≡ true
+  pub sandbox-is : present c (d .sandbox) ≡ true
+  pub target-fits : nameFits t (d .target) ≡ true
+  pub fields-fits : fieldsFit f (d .fields) ≡ true
 
-shape : {a b c : Bool} {t f : ℕ} {d : LineData} → lineShape a b c t f d ≡ true → Shape a b c t f d
+pub shape : {a b c : Bool} {t f : ℕ} {d : LineData} → lineShape a b c t f d ≡ true → Shape a b c t f d
 unfolding lineShape
 shape h =
     let o = and-r _ _ h in
