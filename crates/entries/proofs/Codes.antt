@@ -1,25 +1,22 @@
 -- Laws of names and numbers as bytes.
 -- Assumes nothing.
-use mathlib.Core.Path.{_≡_, refl, sym, ap, _∙_}
-use mathlib.Core.Bool.{Bool, true, false, cond}
+use mathlib.Core.Path.{_≡_, refl}
+use mathlib.Core.Bool.{Bool, true}
 use mathlib.Core.List.{List, [], _∷_, map}
 use Prim.Native.Nat.{ℕ, zero, suc, _+_, _/_, _%_, _≤_, _<_}
 use native.Mathlib.Omega.{arith}
-use lib.Dec.{eqb, leb, ltb}
 use lib.ListN.{take}
 use lib.Seq.{take-nil}
-use borrow.Author.Tests.{leb-true, ltb-true, lt-ltb, le-ltb, lt-leb, ne-eqb}
-use Rattle.sets.specs.Lists.{_&_, either, all}
+use borrow.Author.Tests.{leb-true, ltb-true, le-ltb, lt-leb, ne-eqb}
+use Rattle.sets.specs.Lists.{either, all}
 use Rattle.sets.proofs.Lists.{and-l, and-r}
-use Rattle.klaim.specs.declared.Loc.the-variants.{At, Use}
-use Rattle.klaim.specs.declared.Slot.the-variants.{Bind}
 use Rattle.text.specs.declared.Name.{Name}
 use Rattle.text.specs.Fields.{noNumber, upTo, loc, slot}
 use Rattle.lines.specs.declared.Four.{Four}
 use Rattle.lines.specs.Lines.{names, present}
 use Rattle.judge.specs.Judge.{lowNumber, lowName}
 use Rattle.tables.specs.View.{locOf, slotOf}
-use Rattle.entries.specs.Entries.{byteOf, codeOf, countOf, codes}
+use Rattle.entries.specs.Entries.{byteOf, codeOf, countOf}
 
 -- a number that is there and in its limit
 pub byte-low : (n : ℕ) → n < 256 → byteOf n ≡ n

@@ -3,11 +3,10 @@
 use mathlib.Core.Path.{_≡_, refl, sym, ap, _∙_}
 use mathlib.Core.Bool.{Bool, true, false}
 use mathlib.Core.List.{List, [], _∷_, map}
-use mathlib.Core.Option.{some}
-use Prim.Native.Nat.{ℕ, zero, suc, _+_, _-_, _%_, _≤_, _<_}
+use Prim.Native.Nat.{ℕ, zero, suc, _-_, _%_, _≤_, _<_}
 use native.Mathlib.Numerals.{add-one}
 use native.Mathlib.Omega.{arith}
-use lib.Dec.{ltb, leb}
+use lib.Dec.{ltb}
 use borrow.Author.Tests.{leb-true, ltb-true}
 use Rattle.sets.specs.Lists.{_&_, all}
 use Rattle.sets.proofs.Lists.{and-l, and-r}
@@ -27,7 +26,7 @@ use Rattle.judge.specs.Judge.{lowName, lowNames, lowNumbers, rowLimits}
 use Rattle.judge.proofs.Names.{Shape, shape, fields-fit}
 use Rattle.judge.proofs.Limits.{good, limits-are}
 use Rattle.tables.specs.View.{locOf, slotOf, fieldBytes, lineBy, lineOf, rowAt}
-use Rattle.entries.specs.Entries.{byteOf, codeOf, countOf, codes, lineCodes, tupleCodes}
+use Rattle.entries.specs.Entries.{byteOf, codeOf, codes, lineCodes, tupleCodes}
 use Rattle.entries.proofs.Codes.{byte-low, byte-is, box-is, slot-code, loc-code, map-same, first-codes}
 
 -- the bytes of a line, taken apart
@@ -101,19 +100,19 @@ module _ (d : LineData) (G : lineGood d ≡ true) (N : lowNumbers d ≡ true) (M
 
   line-coded : 0 < d .kind → lineOf (lineCodes d) 0 ≡ Form.lineOf d
   unfolding lineGood
-  line-coded h = coded d ∙ go (d .kind) refl (leb-true (d .kind) 8 (and-l _ _ G)) h
+  line-coded h = coded d ∙ go (d .kind) (leb-true (d .kind) 8 (and-l _ _ G)) h refl
     where
-      go : (k : ℕ) → d .kind ≡ k → k ≤ 8 → 0 < k → lineBy (d .kind - 1) (byteOf (d .next)) (byteOf (d .other)) (byteOf (d .sandbox) % 32) (locOf (codeOf (d .target))) (map codeOf (names (d .fields))) ≡ Form.lineOf d
-      go zero e p q = absurd (omega arith)
-      go (suc zero) e p q = coded-nil e
-      go (suc (suc zero)) e p q = coded-par e
-      go (suc (suc (suc zero))) e p q = coded-rep e
-      go (suc (suc (suc (suc zero)))) e p q = coded-out e
-      go (suc (suc (suc (suc (suc zero))))) e p q = coded-in e
-      go (suc (suc (suc (suc (suc (suc zero)))))) e p q = coded-read e
-      go (suc (suc (suc (suc (suc (suc (suc zero))))))) e p q = coded-eval e
-      go (suc (suc (suc (suc (suc (suc (suc (suc zero)))))))) e p q = coded-accept e
-      go (suc (suc (suc (suc (suc (suc (suc (suc (suc k))))))))) e p q = absurd (omega arith)
+      go : (k : ℕ) → k ≤ 8 → 0 < k → Kind k
+      go zero p q e = absurd (omega arith)
+      go (suc zero) p q e = coded-nil e
+      go (suc (suc zero)) p q e = coded-par e
+      go (suc (suc (suc zero))) p q e = coded-rep e
+      go (suc (suc (suc (suc zero)))) p q e = coded-out e
+      go (suc (suc (suc (suc (suc zero))))) p q e = coded-in e
+      go (suc (suc (suc (suc (suc (suc zero)))))) p q e = coded-read e
+      go (suc (suc (suc (suc (suc (suc (suc zero))))))) p q e = coded-eval e
+      go (suc (suc (suc (suc (suc (suc (suc (suc zero)))))))) p q e = coded-accept e
+      go (suc (suc (suc (suc (suc (suc (suc (suc (suc k))))))))) p q e = absurd (omega arith)
 
 module _ (r : RowData) (G : rowGood r ≡ true) where
   -- a Q row

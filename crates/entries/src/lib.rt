@@ -9,17 +9,16 @@ ghost use Rattle.tables.specs.View.{lineOf, rowAt};
 ghost use Rattle.entries.specs.Entries.{byteOf, codeOf, countOf, lineCodes, tupleCodes};
 use forms::RowData;
 use lines::LineData;
+use tables::FIELDS;
 use text::BINDER;
 use text::Name;
 use text::SITE;
 use text::VARIABLE;
 
-// Numbers that a byte can hold, numbers of names, and the most fields.
+// Numbers that a byte can hold, and numbers of names.
 const BYTES: u16 = 256;
 
 const NUMBERS: u16 = 32;
-
-const FIELDS: usize = 4;
 
 // Where the codes of `self`, of variables and of binders begin.
 const SELF_CODE: u8 = 32;

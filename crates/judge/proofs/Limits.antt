@@ -3,16 +3,16 @@
 use mathlib.Core.Path.{_≡_, refl, sym, ap, _∙_}
 use mathlib.Core.Logic.{_⊎_, inl, inr, ⊎-elim}
 use mathlib.Core.Bool.{Bool, true, false, not, cond}
-use mathlib.Core.List.{List, [], _∷_, map}
+use mathlib.Core.List.{map}
 use Prim.Native.Nat.{ℕ, zero, suc, _≤_, _<_}
 use native.Mathlib.Omega.{arith}
 use lib.Dec.{eqb, leb, ltb}
-use borrow.Author.Tests.{leb-true, le-leb, lt-leb, lt-ltb, le-ltb, ltb-true, ltb-false, ne-eqb, eq-eqb}
+use borrow.Author.Tests.{leb-true, le-leb, lt-leb, lt-ltb, le-ltb, ltb-true, ltb-false, ne-eqb}
 use Rattle.sets.specs.Lists.{_&_, either, imp, all, only, concat, _∪_}
 use Rattle.sets.proofs.Lists.{and-l, and-r, and-i, iff, eqb-eq}
 use Rattle.klaim.specs.Limits.{siteLimit, boxLimit, varLimit, lineLimit}
 use Rattle.klaim.specs.declared.Slot.{Slot}
-use Rattle.klaim.specs.Process.{children, boxesOf, slotsOf, sitesIn, usedIn, boundIn}
+use Rattle.klaim.specs.Process.{slotsOf, sitesIn, usedIn, boundIn}
 use Rattle.klaim.specs.Rows.{rowLine, groupN, groupD, groupL, groupQ}
 use Rattle.klaim.specs.Reader.{inLimits, absent}
 use Rattle.text.specs.declared.Name.{Name}

@@ -5,7 +5,7 @@ use mathlib.Core.Bool.{Bool, true, false, cond}
 use mathlib.Core.List.{List, [], _∷_, map}
 use Prim.Native.Nat.{ℕ, zero, suc, _≤_, _<_}
 use native.Mathlib.Omega.{arith}
-use lib.Dec.{eqb, leb, ltb}
+use lib.Dec.{ltb}
 use lib.Seq.{take-nil}
 use borrow.Author.Tests.{leb-true, le-leb, lt-ltb, ne-eqb}
 use Rattle.sets.specs.Lists.{_&_, imp, all, only, _∪_}

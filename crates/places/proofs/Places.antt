@@ -1,17 +1,16 @@
 -- Laws of bytes put into a table.
 -- Assumes nothing.
-use mathlib.Core.Path.{_≡_, refl, sym, ap, _∙_}
+use mathlib.Core.Path.{_≡_, refl, sym, _∙_}
 use native.Mathlib.Decide.{ℕ-discrete}
 use mathlib.Core.List.{List, [], _∷_, _++_}
-use Prim.Native.Nat.{ℕ, zero, suc, _+_, _*_, _≤_, _<_}
-use native.Mathlib.Nat.{add-zero, zero-add}
-use native.Mathlib.Numerals.{add-one}
+use Prim.Native.Nat.{ℕ, _+_, _*_, _≤_, _<_}
+use native.Mathlib.Nat.{zero-add}
 use native.Mathlib.Omega.{arith}
 use lib.ListN.{length, getD, take, drop, set, length-take, length-drop, length-set}
 use lib.Seq.{getD-take, getD-drop, getD-set-same, getD-set-other, ext-getD}
-use Rattle.sets.specs.Lists.{tableFrom, table}
+use Rattle.sets.specs.Lists.{table}
 use Rattle.sets.proofs.Tables.{same-table}
-use Rattle.klaim.specs.Process.{Nil}
+use Rattle.sets.proofs.Runs.{table-snoc}
 use Rattle.tables.specs.View.{fieldBytes, lineOf, linesView, rowAt, rowsView}
 use Rattle.places.specs.Places.{Put}
 
@@ -68,20 +67,6 @@ row-same l b q p u v h =
         let x : 6 * q + 1 + j ≡ 6 * q + (1 + j) = omega arith in
         let y : 6 * p + 1 + j ≡ 6 * p + (1 + j) = omega arith in
         rw (x, y) (h (1 + j) (omega arith))
-
--- one more entry of a table
-from-snoc : {A : Type 0} (n i : ℕ) (f : ℕ → A) → tableFrom (suc n) i f ≡ tableFrom n i f ++ (f (i + n) ∷ [])
-unfolding tableFrom
-from-snoc zero i f = rw add-zero
-from-snoc {A} (suc n) i f =
-    let e : suc i + n ≡ i + suc n = omega arith in
-    ap (λ (l : List A). f i ∷ l) (from-snoc n (suc i) f ∙ ap (λ (k : ℕ). tableFrom n (suc i) f ++ (f k ∷ [])) e)
-
-table-snoc : {A : Type 0} (n : ℕ) (f : ℕ → A) → table (n + 1) f ≡ table n f ++ (f n ∷ [])
-unfolding table
-table-snoc n f =
-    let e : 0 + n ≡ n = omega arith in
-    ap (λ (k : ℕ). tableFrom k 0 f) (add-one n) ∙ from-snoc n 0 f ∙ ap (λ (k : ℕ). tableFrom n 0 f ++ (f k ∷ [])) e
 
 -- an entry that is put behind the first n keeps these
 grown : {A : Type 0} (n : ℕ) (f g : ℕ → A) (x : A) → ((k : ℕ) → k < n → f k ≡ g k) → f n ≡ x → table (n + 1) f ≡ table n g ++ (x ∷ [])

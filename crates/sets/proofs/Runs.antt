@@ -42,11 +42,15 @@ module _ {A : Type 0} where
       let e : suc i + n ≡ i + suc n = omega arith in
       ap (λ (l : List A). f i ∷ l) (from-snoc n (suc i) f ∙ ap (λ (k : ℕ). tableFrom n (suc i) f ++ (f k ∷ [])) e)
 
+  pub table-snoc : (n : ℕ) (f : ℕ → A) → table (n + 1) f ≡ table n f ++ (f n ∷ [])
+  unfolding table
+  table-snoc n f =
+      let e : 0 + n ≡ n = omega arith in
+      ap (λ (k : ℕ). tableFrom k 0 f) (add-one n) ∙ from-snoc n 0 f ∙ ap (λ (k : ℕ). tableFrom n 0 f ++ (f k ∷ [])) e
+
 pub below-snoc : (n : ℕ) → below (n + 1) ≡ below n ++ (n ∷ [])
-unfolding below table
-below-snoc n =
-    let e : 0 + n ≡ n = omega arith in
-    ap (λ (k : ℕ). tableFrom k 0 (λ i. i)) (add-one n) ∙ from-snoc n 0 (λ i. i) ∙ ap (λ (k : ℕ). tableFrom n 0 (λ i. i) ++ (k ∷ [])) e
+unfolding below
+below-snoc n = table-snoc n (λ i. i)
 
 pub sum-below : (f : ℕ → ℕ) (n : ℕ) → sum f (below (n + 1)) ≡ sum f (below n) + f n
 sum-below f n = ap (sum f) (below-snoc n) ∙ sum-snoc f (below n) n
