@@ -22,11 +22,11 @@ use Rattle.sets.proofs.Runs.{union-none}
 use Rattle.forms.proofs.RowForms.{rowAs, numbers, pair-case, tuple-case, pair-some, tuple-some}
 
 -- one part of what stands in a row
-there : (n : ℕ) → present true n ≡ true → listed n ≡ n ∷ []
+pub there : (n : ℕ) → present true n ≡ true → listed n ≡ n ∷ []
 unfolding present listed only
 there n p = rw p
 
-absent : (n : ℕ) → present false n ≡ true → listed n ≡ []
+pub absent : (n : ℕ) → present false n ≡ true → listed n ≡ []
 unfolding present listed only
 absent n p = let e : n ≡ noNumber = eqb-eq p in rw e
 
@@ -40,7 +40,7 @@ no-site : (m : Name) → nameFits 0 m ≡ true → sitesTo m ≡ []
 unfolding nameFits sitesTo only
 no-site m p = let e : m .kind ≡ 0 = eqb-eq p in rw e
 
-no-fields : (f : Four) → fieldsFit 0 f ≡ true → names f ≡ []
+pub no-fields : (f : Four) → fieldsFit 0 f ≡ true → names f ≡ []
 unfolding fieldsFit names
 no-fields f p = let e : f .count ≡ 0 = eqb-eq p in rw e
 

@@ -121,7 +121,7 @@ pub fn fit(name: Name, most: u8) -> bool
     kind <= most
 }
 
-fn both(a: bool, b: bool) -> bool
+pub fn both(a: bool, b: bool) -> bool
     ensures { λ r. ⌜ r ≡ a & b ⌝ }
 {
     if a { b } else { false }

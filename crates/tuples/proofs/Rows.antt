@@ -60,39 +60,6 @@ row-some n bs k h = get-some [] (table n (rowAt bs)) k (omega (arith, length-tab
 pub row-none : (n : ℕ) (bs : List ℕ) (k : ℕ) → n ≤ k → getElem? (rowsView n bs) k ≡ none
 row-none n bs k h = get-none (rowsView n bs) k (omega (arith, rows-long n bs))
 
--- a loop that stores the bytes of a tuple from place `at` on
-pub record Put (at : ℕ) (row l₀ l : List ℕ) (i : ℕ) : Type 0 where
-  pub long : length l ≡ length l₀
-  pub low : (k : ℕ) → k < at → getD l k 0 ≡ getD l₀ k 0
-  pub wrote : (k : ℕ) → k < i → getD l (at + k) 0 ≡ getD row k 0
-
-pub put-none : (at : ℕ) (row l : List ℕ) → Put at row l l 0
-put-none at row l = record { long = refl; low = λ k h. refl; wrote = λ k h. absurd (omega arith) }
-
-pub put-more : {at : ℕ} {row l₀ l : List ℕ} {i : ℕ} → Put at row l₀ l i → at + i < length l₀ → Put at row l₀ (set l (at + i) (getD row i 0)) (i + 1)
-put-more {at} {row} {l₀} {l} {i} P h = record {
-  long = length-set l (at + i) (getD row i 0) ∙ P .long;
-  low = λ k t. getD-set-other l (at + i) k (getD row i 0) 0 (omega arith) ∙ P .low k t;
-  wrote = λ k t. here k t (ℕ-discrete k i);
-}
-  where
-    here : (k : ℕ) → k < i + 1 → Dec (k ≡ i) → getD (set l (at + i) (getD row i 0)) (at + k) 0 ≡ getD row k 0
-    here k t (yes e) = rw e (getD-set-same l (at + i) (getD row i 0) 0 (omega (arith, P .long)))
-    here k t (no n) = getD-set-other l (at + i) (at + k) (getD row i 0) 0 (omega arith) ∙ P .wrote k (omega arith)
-
-pub put-all : (n : ℕ) {row l₀ l : List ℕ} → Put (6 * n) row l₀ l 6 → length row ≡ 6 → 6 * n + 6 ≤ length l₀ → rowsView (n + 1) l ≡ rowsView n l₀ ++ (rowAt row 0 ∷ [])
-unfolding rowsView
-put-all n {row} {l₀} {l} P six h =
-    ap (λ (k : ℕ). table k (rowAt l)) (add-one n)
-    ∙ table-snoc n (rowAt l)
-    ∙ ap₂ (λ (a : List (List ℕ)) (b : List ℕ). a ++ (b ∷ [])) before here
-  where
-    before : table n (rowAt l) ≡ table n (rowAt l₀)
-    before = same-table n (rowAt l) (rowAt l₀) [] (λ k t. row-same l l₀ k k (omega (arith, P .long)) (omega arith) (λ j u. P .low (6 * k + j) (omega arith)))
-
-    here : rowAt l n ≡ rowAt row 0
-    here = row-same l row n 0 (omega (arith, P .long)) (omega arith) (λ j u. let z : j ≡ 6 * 0 + j = omega arith in P .wrote j u ∙ ap (λ (i : ℕ). getD row i 0) z)
-
 -- a loop that moves the bytes behind a tuple up by six
 pub record Moved (at : ℕ) (l₀ l : List ℕ) (i : ℕ) : Type 0 where
   pub long : length l ≡ length l₀

@@ -108,19 +108,6 @@ pub fn out_row(lines: &[u8; 2560], q: u8, count: u8, target: Loc, th: Thread) ->
     r
 }
 
-// The tuple put behind the n tuples of a table.
-pub fn put_row(rows: &mut [u8; 1536], n: usize, row: [u8; 6])
-    requires { ⌜ (n < 256) × (length (now rows) ≡ 1536) ⌝ }
-    ensures { λ r. ⌜ (rowsView (n + 1) (now (rows .exit)) ≡ rowsView n (now (rows .entry)) ++ (rowAt row 0 ∷ [])) × (length (now (rows .exit)) ≡ 1536) ⌝ }
-{
-    let at = tables::TUPLE * n;
-    let mut j: usize = 0;
-    while j < tables::TUPLE {
-        rows[at + j] = row[j];
-        j += 1;
-    }
-}
-
 // Tuple m taken out of the n tuples of a table: those behind move up.
 pub fn remove_row(rows: &mut [u8; 1536], n: usize, m: usize)
     requires { ⌜ (m < n) × (n ≤ 256) × (length (now rows) ≡ 1536) ⌝ }
