@@ -56,6 +56,7 @@ full t g k =
     (either (eqb g groupQ & leb lineLimit (present t + k))
     (eqb g groupA & leb tupleLimit k)))
 
+-- 2
 unfoldable pub over : Text → List Row → Row → Bool
 over t above r = either (not (inLimits r)) (full t (r .group) (length (ofGroup (r .group) above)))
 
@@ -83,6 +84,7 @@ key r = r .group ∷ (r .boxes ∪ (r .vars ∪ (r .sites ∪ r .lines)))
 unfoldable pub repeated : List Row → Row → Bool
 repeated above r = not (eqb (r .group) groupQ) & any (λ b. same (key b) (key r)) above
 
+-- 3
 unfoldable pub misplaced : Text → List Row → Row → Bool
 misplaced t above r = either (not (headed t above r & own t (r .group) & inOrder above r)) (repeated above r)
 
@@ -100,6 +102,7 @@ siteCount (anArrival n d) above = n
 unfoldable pub absent : ℕ → Row → Bool
 absent n r = any (λ s. leb n s) (r .sites)
 
+-- a row refused by a number, or let through
 pub data Judged : Type 0 where
   bad : ℕ → Judged
   good : Row → Judged
@@ -198,6 +201,7 @@ readEstimate n bytes = andThen (readRows (anEstimate n) bytes) (λ rows. gives (
 unfoldable pub readArrival : ℕ → ℕ → List ℕ → Answer (List Line)
 readArrival n d bytes = andThen (readRows (anArrival n d) bytes) (λ rows. whole (numbersOf rows) (linesOf rows) (0 ∷ []) (linesOf rows))
 
+-- a net and its estimate
 pub record World : Type 0 where
   pub net : Net
   pub estimate : Estimate

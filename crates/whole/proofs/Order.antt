@@ -19,7 +19,7 @@ use Rattle.tables.proofs.Lines.{length-view}
 use Rattle.whole.specs.declared.Children.{Children}
 use Rattle.whole.specs.declared.Children.the-variants.{Zero, One, Two}
 use Rattle.whole.specs.Children.{listOf}
-use Rattle.whole.specs.Rooted.{Rooted}
+use Rattle.whole.specs.RootsIn.{RootsIn}
 
 pub map-all : {A B : Type 0} (g : B → Bool) (f : A → B) (xs : List A) → all g (map f xs) ≡ all (λ x. g (f x)) xs
 unfolding all
@@ -86,7 +86,7 @@ unfolding rootsClosed rootsView
 closed-all n bs m rs = map-all (λ q. empty (free (tree (linesView n bs) q))) (λ x. x .line) (table m (rootAt rs))
 
 -- the line of root i
-pub root-form : {n : ℕ} {bs : List ℕ} {m : ℕ} {rs : List ℕ} → Rooted n bs m rs → (i : ℕ) → i < m → InForm n bs (getD rs (2 * i + 1) 0)
+pub root-form : {n : ℕ} {bs : List ℕ} {m : ℕ} {rs : List ℕ} → RootsIn n bs m rs → (i : ℕ) → i < m → InForm n bs (getD rs (2 * i + 1) 0)
 unfolding rootAt
 root-form {n} {bs} {m} {rs} w i h = record {
   inOrder = w .inOrder;

@@ -12,7 +12,7 @@ ghost use Rattle.klaim.specs.Reader.{namedOnce, rootsClosed};
 ghost use Rattle.tables.specs.View.{lineOf, linesView, rootsView, fieldBytes, actionLine, LowLoc, InForm};
 ghost use Rattle.whole.specs.Free.{maskOf, varIn, freeFields, freeForks, namesOf};
 ghost use Rattle.whole.specs.Children.{listOf};
-ghost use Rattle.whole.specs.Rooted.{Rooted};
+ghost use Rattle.whole.specs.RootsIn.{RootsIn};
 ghost use Rattle.whole.specs.Counted.{Counted};
 use klaim::Loc;
 use tables::Action;
@@ -348,7 +348,7 @@ pub fn closed(lines: &[u8; 2560], n: usize, q: u8) -> bool
 
 // Whether no root has a free variable. Where each line is named once, each is walked once.
 pub fn roots_closed(lines: &[u8; 2560], n: usize, roots: &[u8; 128], m: usize) -> bool
-    requires { ⌜ Rooted n (now lines) m (now roots) ⌝ }
+    requires { ⌜ RootsIn n (now lines) m (now roots) ⌝ }
     ensures { λ r. ⌜ r ≡ rootsClosed (linesView n (now (lines .entry))) (map (λ x. x .line) (rootsView m (now (roots .entry)))) ⌝ }
 {
     let mut i: usize = 0;

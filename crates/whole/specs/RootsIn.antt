@@ -10,7 +10,7 @@ use Rattle.sets.specs.Lists.{all}
 use Rattle.klaim.specs.Process.{ordered}
 use Rattle.tables.specs.View.{linesView, rootsView}
 
-pub record Rooted (n : ℕ) (bs : List ℕ) (m : ℕ) (rs : List ℕ) : Type 0 where
+pub record RootsIn (n : ℕ) (bs : List ℕ) (m : ℕ) (rs : List ℕ) : Type 0 where
   pub long : length bs ≡ 2560
   pub few : m ≤ 64
   pub inOrder : ordered (linesView n bs) ≡ true
