@@ -31,6 +31,7 @@ unfoldable pub slotMatch : (Loc → ℕ → Bool) → Slot → ℕ → Bool
 slotMatch f (Value x) v = f x v
 slotMatch f (Bind u) v = true
 
+-- "with as many fields, each non-binding field's reach holding the row's field": the test, field by field
 unfoldable pub matches : (Loc → ℕ → Bool) → List Slot → List ℕ → Bool
 matches f [] [] = true
 matches f [] (v ∷ vs) = false
@@ -52,6 +53,7 @@ unfoldable pub lesser : ℕ → Option ℕ → ℕ
 lesser x none = x
 lesser x (some y) = min x y
 
+-- the least of a list, if it has any
 unfoldable pub least : List ℕ → Option ℕ
 least [] = none
 least (x ∷ xs) = some (lesser x (least xs))
@@ -105,9 +107,11 @@ module _ (N : Net) (E : Estimate) where
   unfoldable pub brokenTuple : Option ℕ
   brokenTuple = firstNot (stands E) (N .tuples)
 
+  -- the first line whose rule does not hold, over all roots
   unfoldable pub brokenLine : Option ℕ
   brokenLine = least (concat (λ r. broken (placeSet (r .site)) (process N r)) (N .roots))
 
+-- accepted, or the first broken T row or Q line, counted from 0
 pub data Verdict : Type 0 where
   accepted : Verdict
   brokenT : ℕ → Verdict
@@ -119,5 +123,6 @@ verdictOf (some i) q = brokenT i
 verdictOf none (some q) = brokenQ q
 verdictOf none none = accepted
 
+-- the verdict on a net and its estimate
 unfoldable pub verdict : Net → Estimate → Verdict
 verdict N E = verdictOf (brokenTuple N E) (brokenLine N E)

@@ -10,6 +10,7 @@ use Rattle.klaim.specs.Reader.{Answer, refused, gives, World, readBoth}
 use Rattle.klaim.specs.Analysis.{Verdict, accepted, brokenT, brokenQ, verdict}
 use Rattle.klaim.specs.Report.{report}
 
+-- the answer, and the lent buffer behind the call
 pub record Checked : Type 0 where
   pub answer : Answer Verdict
   pub buffer : List ℕ

@@ -22,6 +22,7 @@ pub data Call : Type 0 where
   bare : ℕ → ℕ → ℕ → Call
   guarded : ℕ → ℕ → ℕ → Call
 
+-- what a call answers and leaves
 unfoldable pub call : State → Call → Result
 call st (bringing bytes) = bring st bytes
 call st (bare k m r) = step false st k m r
@@ -99,5 +100,6 @@ Allowed N th (gives silent) = Unit {0}
 Allowed N none (gives (performed s t right)) = ⊥
 Allowed N (some th) (gives (performed s t right)) = forbids N th t right ≡ false
 
+-- "Guarded steps need the right in the thread's policy and in the home policy of its site"
 abbrev pub GuardStatement : Type 0
 GuardStatement = (st : State) (k m r : ℕ) → Allowed (st .net) (getElem? (st .threads) k) (step true st k m r .answer)

@@ -33,6 +33,7 @@ pub record Result : Type 0 where
   pub answer : Answer Event
   pub state : State
 
+-- a refusal leaves the state as it is
 abbrev pub refuse : ℕ → ℕ → State → Result
 refuse n row st = record { answer = refused n row; state = st }
 
@@ -47,10 +48,12 @@ joined st ls = record {
   tuples = st .tuples;
 }
 
+-- what bring does with what was read
 unfoldable pub bringRead : State → Answer (List Line) → Result
 bringRead st (refused n row) = refuse n row st
 bringRead st (gives ls) = record { answer = gives (brought (length (st .lines))); state = joined st ls }
 
+-- "Bring uses 1 to 8": it answers the root's line number
 unfoldable pub bring : State → List ℕ → Result
 bring st bytes = bringRead st (readArrival (st .net .size) (length (st .lines)) bytes)
 
@@ -170,6 +173,7 @@ doorAlone st r l d =
     (cond (not (ltb d boxLimit)) (refused 2 0)
     (gives (door (st .net) (st .estimate) d l (tree (st .lines) r)))))
 
+-- the step was not refused
 unfoldable pub performs : Answer Event → Bool
 performs (refused n row) = false
 performs (gives e) = true

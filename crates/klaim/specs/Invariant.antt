@@ -43,6 +43,7 @@ pub record ThreadOk (n : ℕ) (ls : List Line) (th : Thread) : Type 0 where
   pub bindings-low : (u s : ℕ) → getD (th .bindings) u none ≡ some s → s < n
   pub free-bound : (u : ℕ) → Elem u (free (tree ls (th .line))) → (s : ℕ) × (getD (th .bindings) u none ≡ some s)
 
+-- "an invariant that every starting state is shown to have and every call to keep"
 pub record Invariant (st : State) : Type 0 where
   pub sites-some : 1 ≤ st .net .size
   pub sites-few : st .net .size ≤ siteLimit

@@ -6,9 +6,11 @@ use Prim.Native.Nat.{ℕ}
 abbrev pub siteLimit : ℕ
 siteLimit = 32
 
+-- variables u0 to u31
 abbrev pub varLimit : ℕ
 varLimit = 32
 
+-- "sandbox k (0 to 31)"
 abbrev pub boxLimit : ℕ
 boxLimit = 32
 

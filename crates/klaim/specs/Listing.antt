@@ -21,9 +21,11 @@ unfoldable pub digits : ℕ → ℕ → List ℕ
 digits zero n = (code "0" + n % 10) ∷ []
 digits (suc k) n = elim (ltb n 10) [ true ↦ (code "0" + n) ∷ [] | false ↦ digits k (n / 10) ∪ ((code "0" + n % 10) ∷ []) ]
 
+-- a number in decimal
 unfoldable pub numeral : ℕ → List ℕ
 numeral n = digits n n
 
+-- the letter of a right
 unfoldable pub letter : ℕ → ℕ
 letter r = cond (eqb r outBit) (code "o") (cond (eqb r inBit) (code "i") (cond (eqb r readBit) (code "r") (cond (eqb r evalBit) (code "e") (code "a"))))
 
@@ -31,6 +33,7 @@ letter r = cond (eqb r outBit) (code "o") (cond (eqb r inBit) (code "i") (cond (
 unfoldable pub letters : ℕ → List ℕ
 letters m = concat (λ r. letter r ∷ []) (keep (has m) everyBit)
 
+-- "Sites are s0 to s31"
 unfoldable pub siteName : ℕ → List ℕ
 siteName s = code "s" ∷ numeral s
 
@@ -39,6 +42,7 @@ unfoldable pub tail : List (List ℕ) → List ℕ
 tail [] = newline ∷ []
 tail (f ∷ fs) = comma ∷ (f ∪ tail fs)
 
+-- a row of the output: its word and its fields
 unfoldable pub row : String → List (List ℕ) → List ℕ
 row word fs = text word ∪ tail fs
 
@@ -50,6 +54,7 @@ reported bytes = sum size bytes
 unfoldable pub rowV : List ℕ → ℕ → List ℕ
 rowV bytes i = row "V" (siteName (i / 32) ∷ siteName (i % 32) ∷ letters (getD bytes i 0) ∷ [])
 
+-- the V rows of a report
 unfoldable pub rowsV : List ℕ → List ℕ
 rowsV bytes = concat (rowV bytes) (keep (λ i. not (eqb (getD bytes i 0) 0)) (below reportSize))
 
@@ -78,6 +83,7 @@ rowU w s =
     let q = usedCount w s in
     row "U" (siteName s ∷ numeral p ∷ numeral q ∷ numeral (share p q) ∷ [])
 
+-- "`accepted`" with the V and U rows, "Else `broken,T,` or `broken,Q,` and the number counted from 0"
 unfoldable pub listVerdict : World → Verdict → List ℕ
 listVerdict w accepted =
     let bytes = report (w .net) (w .estimate) in
@@ -96,6 +102,7 @@ before start [] = 0
 before start (b ∷ bytes) =
     elim (start & same (take 2 (b ∷ bytes)) (code "." ∷ newline ∷ [])) [ true ↦ 0 | false ↦ suc (before (eqb b newline) bytes) ]
 
+-- the bytes of the net
 unfoldable pub netPart : List ℕ → List ℕ
 netPart input = take (before true input) input
 

@@ -36,6 +36,7 @@ home N s t = getD (N .homes) (32 * s + t) 0
 unfoldable pub box : Net → ℕ → ℕ → ℕ
 box N k t = getD (N .boxes) (33 * k + t) 0
 
+-- "A sandbox may also have a row for `self`": d(self)
 unfoldable pub boxSelf : Net → ℕ → ℕ
 boxSelf N k = getD (N .boxes) (33 * k + 32) 0
 

@@ -81,12 +81,14 @@ sitesIn (Value Here) = []
 sitesIn (Value (Use u)) = []
 sitesIn (Bind u) = []
 
+-- the variables used in a field
 unfoldable pub usedIn : Slot → List ℕ
 usedIn (Value (At s)) = []
 usedIn (Value Here) = []
 usedIn (Value (Use u)) = u .0 ∷ []
 usedIn (Bind u) = []
 
+-- "`!u`, which binds u": the variables that a field binds
 unfoldable pub boundIn : Slot → List ℕ
 boundIn (Value x) = []
 boundIn (Bind u) = u .0 ∷ []
@@ -121,6 +123,7 @@ unfoldable pub trees : ℕ → List Line → List Tree
 trees q [] = []
 trees q (l ∷ ls) = let ts = trees (suc q) ls in node (λ c. getD ts (c - suc q) nilT) q l ∷ ts
 
+-- the process of line q; `nil` past the end
 unfoldable pub tree : List Line → ℕ → Tree
 tree ls q = getD (trees 0 ls) q nilT
 
@@ -129,6 +132,7 @@ unfoldable pub orderedFrom : ℕ → ℕ → List Line → Bool
 orderedFrom q n [] = true
 orderedFrom q n (l ∷ ls) = all (λ c. ltb q c & ltb c n) (children l) & orderedFrom (suc q) n ls
 
+-- 5, over all lines
 unfoldable pub ordered : List Line → Bool
 ordered ls = orderedFrom 0 (length ls) ls
 

@@ -81,6 +81,7 @@ inOrder above r = all (λ b. leb (b .group) (r .group)) above
 unfoldable pub key : Row → List ℕ
 key r = r .group ∷ (r .boxes ∪ (r .vars ∪ (r .sites ∪ r .lines)))
 
+-- 3: "pair or row repeated"
 unfoldable pub repeated : List Row → Row → Bool
 repeated above r = not (eqb (r .group) groupQ) & any (λ b. same (key b) (key r)) above
 
@@ -93,6 +94,7 @@ unfoldable pub sizeOf : List Row → ℕ
 sizeOf [] = 0
 sizeOf (r ∷ rs) = r .size
 
+-- the n of the text: of a net what its N row says
 unfoldable pub siteCount : Text → List Row → ℕ
 siteCount aNet above = sizeOf above
 siteCount (anEstimate n) above = n
@@ -122,6 +124,7 @@ unfoldable pub scan : Text → List Row → List (Option Row) → Answer (List R
 scan t above [] = gives above
 scan t above (o ∷ os) = elim (judge t above o) [ bad n ↦ refused n (suc (length above)) | good r ↦ scan t (above ++ (r ∷ [])) os ]
 
+-- the rows of a whole text
 unfoldable pub readRows : Text → List ℕ → Answer (List Row)
 readRows t bytes = scan t [] (rowsOf bytes)
 
@@ -157,9 +160,11 @@ gather n place value rows = table n (λ i. joins (λ r. grant (eqb (place r) i) 
 unfoldable pub pairPlace : Row → ℕ
 pairPlace r = 32 * nth (r .sites) 0 + nth (r .sites) 1
 
+-- byte 33 × k + t of a D row, which names no site for `self`
 unfoldable pub boxPlace : Row → ℕ
 boxPlace r = 33 * nth (r .boxes) 0 + getD (r .sites) 0 32
 
+-- "`L,s,q`"
 unfoldable pub rootOf : Row → Root
 rootOf r = record { site = nth (r .sites) 0; line = nth (r .lines) 0 }
 
@@ -167,9 +172,11 @@ rootOf r = record { site = nth (r .sites) 0; line = nth (r .lines) 0 }
 unfoldable pub numbersOf : List Row → List ℕ
 numbersOf rows = map (λ r. nth (r .lines) 0) (ofGroup groupQ rows)
 
+-- the lines of the Q rows, in their order
 unfoldable pub linesOf : List Row → List Line
 linesOf rows = map (λ r. r .process) (ofGroup groupQ rows)
 
+-- the net that the rows say
 unfoldable pub netOf : List Row → Net
 netOf rows = record {
   size = sizeOf rows;
@@ -180,6 +187,7 @@ netOf rows = record {
   lines = linesOf rows;
 }
 
+-- the estimate that the rows say
 unfoldable pub estimateOf : List Row → Estimate
 estimateOf rows = record {
   binds = gather 32 (λ r. nth (r .vars) 0) (λ r. 2 ^ nth (r .sites) 0) (ofGroup groupB rows);
@@ -191,9 +199,11 @@ estimateOf rows = record {
 unfoldable pub wholeNet : List Row → Answer Net
 wholeNet rows = cond (empty rows) (refused 3 1) (whole (numbersOf rows) (linesOf rows) (map (λ r. r .line) (netOf rows .roots)) (netOf rows))
 
+-- a net from its bytes
 unfoldable pub readNet : List ℕ → Answer Net
 readNet bytes = andThen (readRows aNet bytes) wholeNet
 
+-- an estimate from its bytes, given the n of the net
 unfoldable pub readEstimate : ℕ → List ℕ → Answer Estimate
 readEstimate n bytes = andThen (readRows (anEstimate n) bytes) (λ rows. gives (estimateOf rows))
 

@@ -24,6 +24,7 @@ unfoldable pub text : String → List ℕ
 text done = []
 text (_then_ c s) = code c ∷ text s
 
+-- "parted by commas"
 abbrev pub comma : ℕ
 comma = 44
 
@@ -66,9 +67,11 @@ each f (x ∷ xs) = do
   ys ← each f xs
   some (y ∷ ys)
 
+-- "Numbers are decimal": a digit
 unfoldable pub digit : ℕ → Bool
 digit b = leb (code "0") b & leb b (code "9")
 
+-- the value of digits, behind the value n of those before them
 unfoldable pub decimal : ℕ → List ℕ → ℕ
 decimal n [] = n
 decimal n (b ∷ f) = decimal (10 * n + (b - code "0")) f
@@ -91,9 +94,11 @@ lettered x (b ∷ f) = given (eqb b x) (number f)
 unfoldable pub siteField : List ℕ → Option ℕ
 siteField f = lettered (code "s") f
 
+-- "variables u0 to u31"
 unfoldable pub varField : List ℕ → Option ℕ
 varField f = lettered (code "u") f
 
+-- "`self`"
 unfoldable pub isSelf : List ℕ → Bool
 isSelf f = same f (text "self")
 
@@ -142,27 +147,35 @@ fields f fs = given (leb 1 (length fs) & leb (length fs) fieldLimit) (each f fs)
 abbrev pub groupN : ℕ
 groupN = 1
 
+-- "`R,s,t,rights`: home policy of site s towards t"
 abbrev pub groupR : ℕ
 groupR = 2
 
+-- "`D,k,t,rights`: sandbox k (0 to 31) towards t"
 abbrev pub groupD : ℕ
 groupD = 3
 
+-- "`T,s,f..`: a tuple of 1 to 4 sites standing at s"
 abbrev pub groupT : ℕ
 groupT = 4
 
+-- "`L,s,q`: process line q runs at s under the home policy"
 abbrev pub groupL : ℕ
 groupL = 5
 
+-- "`Q,q,..`: process lines"
 abbrev pub groupQ : ℕ
 groupQ = 6
 
+-- "`B,u,s` (u may become s)"
 abbrev pub groupB : ℕ
 groupB = 7
 
+-- "`A,s,f..` (the tuple may stand at s)"
 abbrev pub groupA : ℕ
 groupA = 8
 
+-- "`E,s,t,rights` (sandboxes at s may hold these towards t)"
 abbrev pub groupE : ℕ
 groupE = 9
 
@@ -237,17 +250,20 @@ rowB fs = sized 3 fs do
 unfoldable pub lineNil : List (List ℕ) → Option Line
 lineNil ws = sized 1 ws (some Nil)
 
+-- "`par,a,b`"
 unfoldable pub linePar : List (List ℕ) → Option Line
 linePar ws = sized 3 ws do
   a ← number (at ws 1)
   b ← number (at ws 2)
   some (Par a b)
 
+-- "`rep,a`"
 unfoldable pub lineRep : List (List ℕ) → Option Line
 lineRep ws = sized 2 ws do
   a ← number (at ws 1)
   some (Rep a)
 
+-- "`out,a,g,f..`"
 unfoldable pub lineOut : List (List ℕ) → Option Line
 lineOut ws = do
   a ← number (at ws 1)
@@ -263,6 +279,7 @@ lineGet kind ws = do
   fs ← fields slotField (drop 3 ws)
   some (kind a g fs)
 
+-- "`eval,a,g,b,k`"
 unfoldable pub lineEval : List (List ℕ) → Option Line
 lineEval ws = sized 5 ws do
   a ← number (at ws 1)
@@ -271,6 +288,7 @@ lineEval ws = sized 5 ws do
   k ← number (at ws 4)
   some (Eval a g b k)
 
+-- "`accept,a,k`"
 unfoldable pub lineAccept : List (List ℕ) → Option Line
 lineAccept ws = sized 3 ws do
   a ← number (at ws 1)
@@ -281,6 +299,7 @@ lineAccept ws = sized 3 ws do
 abbrev pub ifWord : {A : Type 0} → String → List (List ℕ) → Option A → Option A
 ifWord w fs x = given (same (at fs 0) (text w)) x
 
+-- the eight kinds, by their word
 unfoldable pub lineForm : List (List ℕ) → Option Line
 lineForm ws =
     otherwise (ifWord "nil" ws (lineNil ws))
@@ -336,5 +355,6 @@ rowsFrom ([] ∷ []) = []
 rowsFrom ((b ∷ left) ∷ []) = none ∷ []
 rowsFrom (piece ∷ next ∷ ps) = rowOf piece ∷ rowsFrom (next ∷ ps)
 
+-- the rows of a text
 unfoldable pub rowsOf : List ℕ → List (Option Row)
 rowsOf bytes = rowsFrom (split newline bytes)

@@ -36,6 +36,7 @@ pub record State : Type 0 where
 abbrev pub unbound : Bindings
 unbound = replicate varLimit none
 
+-- the line is `nil`
 unfoldable pub isNil : Line → Bool
 isNil Nil = true
 isNil (Par a b) = false
@@ -54,6 +55,7 @@ settle ls th = cond (isNil (lineAt ls (th .line))) [] (th ∷ [])
 unfoldable pub homePolicy : Net → ℕ → List ℕ
 homePolicy N s = table siteLimit (home N s)
 
+-- sandbox k evaluated at site l, as a thread holds it
 unfoldable pub boxPolicy : Net → ℕ → ℕ → List ℕ
 boxPolicy N k l = table siteLimit (boxAt N k l)
 
@@ -61,6 +63,7 @@ boxPolicy N k l = table siteLimit (boxAt N k l)
 unfoldable pub rootThread : Net → Root → Thread
 rootThread N r = record { site = r .site; policy = homePolicy N (r .site); line = r .line; bindings = unbound }
 
+-- "with one thread per L row .. and the T rows"
 unfoldable pub begin : World → State
 begin w = record {
   net = w .net;
