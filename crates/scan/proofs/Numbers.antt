@@ -1,0 +1,114 @@
+-- The tests of a row in their order.
+-- Assumes nothing.
+use mathlib.Core.Path.{_≡_, refl, sym, ap, _∙_}
+use mathlib.Core.Bool.{Bool, true, false, not, cond, false≢true}
+use mathlib.Core.List.{List}
+use mathlib.Core.Option.{none, some}
+use Prim.Native.Nat.{ℕ, zero, suc, _<_}
+use native.Mathlib.Omega.{arith}
+use lib.Dec.{eqb}
+use lib.ListN.{length}
+use borrow.Author.Tests.{eq-eqb, ne-eqb, lt-ltb}
+use Rattle.sets.specs.Lists.{_&_, either}
+use Rattle.klaim.specs.Process.{template, clash}
+use Rattle.sets.proofs.Lists.{not-no, not-yes}
+use Rattle.klaim.specs.Rows.{Row, rowLine}
+use Rattle.klaim.specs.Reader.{Text, inLimits, ofGroup, full, over, headed, own, inOrder, repeated, misplaced, siteCount, absent, Judged, bad, good, judge}
+use Rattle.forms.specs.declared.RowData.{RowData}
+use Rattle.forms.specs.Forms.{rowData, rowView, rowGood, plainRow}
+use Rattle.forms.proofs.Views.{view-none, view-some}
+use Rattle.judge.proofs.Limits.{Good, q-row, plain-row, good as good-row}
+use Rattle.scan.specs.Numbers.{earlyOf, lateOf, numberOf, judgedBy}
+
+-- the group of a row
+pub group-is : (r : RowData) → rowGood r ≡ true → 0 < r .group → rowData r .group ≡ r .group
+unfolding rowData rowLine plainRow
+group-is r G h = go (good-row r G h)
+  where
+    go : Good r → rowData r .group ≡ r .group
+    go (q-row e k l P o) = rw (lt-ltb 0 (r .line .kind) k) (sym e)
+    go (plain-row e k P) = rw k
+
+either-true : (a : Bool) → either a true ≡ true
+unfolding either
+either-true true = refl
+either-true false = refl
+
+eqb-pos : (n : ℕ) → eqb n 0 ≡ false → 0 < n
+eqb-pos zero e = absurd (false≢true (sym e))
+eqb-pos (suc n) e = omega arith
+
+-- what is no row has no other form to keep
+pub no-row-good : (r : RowData) → r .group ≡ 0 → rowGood r ≡ true
+unfolding rowGood
+no-row-good r e = rw e
+
+-- the five tests of a row of good form, as numbers
+by-tests : (limits full placed repeated absent clash : Bool) (r : Row) →
+    cond (either (not limits) full) (bad 2) (cond (either (not placed) repeated) (bad 3) (cond absent (bad 4) (cond clash (bad 7) (good r))))
+    ≡ judgedBy (numberOf (cond (either (not limits) full) 2 (cond placed 0 3)) repeated (cond absent 4 (cond clash 7 0))) r
+unfolding judgedBy numberOf either
+by-tests false full placed repeated absent clash r = refl
+by-tests true true placed repeated absent clash r = refl
+by-tests true false false repeated absent clash r = refl
+by-tests true false true true absent clash r = refl
+by-tests true false true false true clash r = refl
+by-tests true false true false false true r = refl
+by-tests true false true false false false r = refl
+
+-- "Each row top down: 1, 2, 3, 4, 7."
+module _ (t : Text) (above : List Row) (r : RowData) where
+  pub not-formed : r .group ≡ 0 → (l : ℕ) (full placed repeated : Bool) → judge t above (rowView r) ≡ judgedBy (numberOf (earlyOf r full placed) repeated l) (rowData r)
+  unfolding judge judgedBy numberOf earlyOf
+  not-formed e l full placed repeated = rw (view-none r e, eq-eqb (r .group) 0 e)
+
+  pub formed : rowGood r ≡ true → (r .group ≡ 0 → ⊥) → judge t above (rowView r) ≡ judgedBy (numberOf (earlyOf r (full t (r .group) (length (ofGroup (r .group) above))) (headed t above (rowData r) & own t (r .group) & inOrder above (rowData r))) (repeated above (rowData r)) (lateOf (siteCount t above) (rowData r))) (rowData r)
+  unfolding judge over misplaced earlyOf lateOf rowData
+  formed G h = rw (view-some r h, ne-eqb (r .group) 0 h, group-is r G (omega arith)) (by-tests (inLimits (rowData r)) (full t (r .group) (length (ofGroup (r .group) above))) (headed t above (rowData r) & own t (r .group) & inOrder above (rowData r)) (repeated above (rowData r)) (absent (siteCount t above) (rowData r)) (clash (template (rowData r .process))) (rowData r))
+
+-- the tests, one by one
+module _ (r : RowData) where
+  pub early-form : (full placed : Bool) → r .group ≡ 0 → 1 ≡ earlyOf r full placed
+  unfolding earlyOf
+  early-form full placed e = rw e
+
+  pub early-full : {full : Bool} (placed : Bool) → (r .group ≡ 0 → ⊥) → full ≡ true → 2 ≡ earlyOf r full placed
+  unfolding earlyOf
+  early-full placed h f = rw (ne-eqb (r .group) 0 h, f, either-true (not (inLimits (rowData r))))
+
+  pub early-over : (full placed : Bool) → (r .group ≡ 0 → ⊥) → inLimits (rowData r) ≡ false → 2 ≡ earlyOf r full placed
+  unfolding earlyOf either
+  early-over full placed h l = rw (ne-eqb (r .group) 0 h, l)
+
+  pub early-placed : {full placed : Bool} → (r .group ≡ 0 → ⊥) → full ≡ false → inLimits (rowData r) ≡ true → placed ≡ true → 0 ≡ earlyOf r full placed
+  unfolding earlyOf either
+  early-placed h f l p = rw (ne-eqb (r .group) 0 h, f, l, p)
+
+  pub early-misplaced : {full placed : Bool} → (r .group ≡ 0 → ⊥) → full ≡ false → inLimits (rowData r) ≡ true → placed ≡ false → 3 ≡ earlyOf r full placed
+  unfolding earlyOf either
+  early-misplaced h f l p = rw (ne-eqb (r .group) 0 h, f, l, p)
+
+  -- what is known of a row that 1, 2 and the order let through
+  pub early-passed : {full placed : Bool} → earlyOf r full placed ≡ 0 → (0 < r .group) × (inLimits (rowData r) ≡ true) × (full ≡ false) × (placed ≡ true)
+  unfolding earlyOf either
+  early-passed {full} {placed} e = go (eqb (r .group) 0) refl (inLimits (rowData r)) refl full refl placed refl e
+    where
+      go : (g : Bool) → eqb (r .group) 0 ≡ g → (l : Bool) → inLimits (rowData r) ≡ l → (f : Bool) → full ≡ f → (p : Bool) → placed ≡ p → _≡_ {A = ℕ} (cond g 1 (cond (either (not l) f) 2 (cond p 0 3))) 0 → (0 < r .group) × (inLimits (rowData r) ≡ true) × (full ≡ false) × (placed ≡ true)
+      go true q l a f b p d e = absurd (omega arith)
+      go false q false a f b p d e = absurd (omega arith)
+      go false q true a true b p d e = absurd (omega arith)
+      go false q true a false b false d e = absurd (omega arith)
+      go false q true a false b true d e = (eqb-pos (r .group) q, a, b, d)
+
+module _ (n : ℕ) (r : Row) where
+  pub late-absent : false ≡ not (absent n r) → 4 ≡ lateOf n r
+  unfolding lateOf
+  late-absent h = rw (not-no (absent n r) (sym h))
+
+  pub late-clash : true ≡ not (absent n r) → true ≡ clash (template (r .process)) → 7 ≡ lateOf n r
+  unfolding lateOf
+  late-clash h c = rw (not-yes (absent n r) (sym h), sym c)
+
+  pub late-none : true ≡ not (absent n r) → false ≡ clash (template (r .process)) → 0 ≡ lateOf n r
+  unfolding lateOf
+  late-none h c = rw (not-yes (absent n r) (sym h), sym c)

@@ -1,0 +1,86 @@
+//! The rows of a text, one after the other: the row at a place, and the tests of it that need no table.
+ghost use mathlib.Core.Path.{_≡_};
+ghost use mathlib.Core.Bool.{true};
+ghost use mathlib.Core.List.{_∷_};
+ghost use Prim.Native.Nat.{_+_, _<_};
+ghost use lib.ListN.{length};
+ghost use Rattle.klaim.specs.Rows.{newline};
+ghost use Rattle.text.specs.Pieces.{endOf};
+ghost use Rattle.forms.specs.Forms.{rowView, rowData, rowGood};
+ghost use Rattle.scan.specs.Progress.{rowsLeft};
+ghost use Rattle.scan.specs.Numbers.{earlyOf, lateOf, numberOf};
+use forms::RowData;
+
+// What is kept of the rows above: the n of the text, the tuples, roots and lines that stand in its tables, the last group, whether
+// Q rows are numbered in turn, how many rows; `number` is that of the refusal of the last of them, or 0.
+pub struct Tally {
+    pub size: u16,
+    pub tuples: usize,
+    pub roots: usize,
+    pub lines: usize,
+    pub last: u8,
+    pub turn: bool,
+    pub rows: usize,
+    pub number: u8,
+}
+
+// The row that begins at `at` and ends at `end`. Bytes behind the last newline are no row.
+pub fn row_at(s: &[u8], at: usize, end: usize) -> RowData
+    requires { ⌜ at < length (now s) ⌝ }
+    requires { ⌜ end ≡ endOf newline (now s) at ⌝ }
+    ensures { λ r. ⌜ rowsLeft (now (s .entry)) at ≡ rowView r ∷ rowsLeft (now (s .entry)) (end + 1) ⌝ }
+    ensures { λ r. ⌜ rowGood r ≡ true ⌝ }
+{
+    if end < s.len() {
+        return forms::row_of(&s[at..end]);
+    }
+    forms::NO_ROW
+}
+
+// Form, limits and place: 1, 2, 3 or 0.
+pub fn early(row: RowData, full: bool, placed: bool) -> u8
+    requires { ⌜ rowGood row ≡ true ⌝ }
+    ensures { λ r. ⌜ r ≡ earlyOf row full placed ⌝ }
+{
+    let group = row.group;
+    if group == 0 {
+        return 1;
+    }
+    if full {
+        return 2;
+    }
+    if judge::in_limits(row) {
+        if placed {
+            return 0;
+        }
+        return 3;
+    }
+    2
+}
+
+// Sites and template: 4, 7 or 0.
+pub fn late(row: RowData, n: u16) -> u8
+    requires { ⌜ rowGood row ≡ true ⌝ }
+    requires { ⌜ 0 < row .group ⌝ }
+    ensures { λ r. ⌜ r ≡ lateOf n (rowData row) ⌝ }
+{
+    if judge::low_sites(row, n) {
+        if binders::clashes(row) {
+            return 7;
+        }
+        return 0;
+    }
+    4
+}
+
+// The tally with a row turned away.
+pub fn turned_away(tally: Tally, number: u8) -> Tally
+    requires { ⌜ tally .rows + 1 < 18446744073709551616 ⌝ }
+    ensures { λ r. ⌜ r .number ≡ number ⌝ }
+    ensures { λ r. ⌜ r .rows ≡ tally .rows + 1 ⌝ }
+{
+    let mut r = tally;
+    r.number = number;
+    r.rows = r.rows + 1;
+    r
+}
