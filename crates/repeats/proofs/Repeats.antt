@@ -1,0 +1,174 @@
+-- A row repeats one above if its place in the table of its group is taken.
+-- Assumes nothing.
+use mathlib.Core.Path.{_≡_, refl, sym, ap, ap₂, subst, _∙_}
+use mathlib.Core.Logic.{_⊎_, inl, inr}
+use mathlib.Core.Bool.{Bool, true, false, not, false≢true}
+use mathlib.Core.List.{List, [], _∷_, map}
+use Prim.Native.Nat.{ℕ, _+_, _*_, _<_, _≤_, _^_}
+use native.Mathlib.Omega.{arith}
+use lib.Dec.{eqb, ltb}
+use lib.ListN.{getD}
+use borrow.Author.Tests.{ltb-true, ne-eqb}
+use Rattle.sets.specs.Lists.{All, _&_, any, all, only, same}
+use Rattle.sets.specs.Bits.{mem, grant, joins}
+use Rattle.sets.proofs.Lists.{iff, and-l, eqb-eq, eq-eqb, In-All, All-in, All-turn, keep-out}
+use Rattle.sets.proofs.Tables.{getD-table}
+use Rattle.klaim.specs.Rows.{Row, groupR, groupD, groupT, groupL, groupQ, groupB, groupA, groupE}
+use Rattle.klaim.specs.Net.{Root}
+use Rattle.klaim.specs.Reader.{inLimits, ofGroup, key, repeated, nth, gather, pairPlace, boxPlace, rootOf}
+use Rattle.text.specs.declared.Name.{Name}
+use Rattle.text.specs.Fields.{sitesTo}
+use Rattle.forms.specs.declared.RowData.{RowData}
+use Rattle.forms.specs.Forms.{rowData, rowGood, pairGroup, tupleGroup}
+use Rattle.forms.proofs.RowForms.{pair-case, tuple-case, pair-some, tuple-some}
+use Rattle.judge.proofs.Tests.{and-true}
+use Rattle.repeats.specs.Kept.{Kept}
+use Rattle.repeats.proofs.Marks.{any-keep, any-map, any-same, joins-some, joins-mem, two-same}
+use Rattle.repeats.proofs.Rows.{PairRow, BoxRow, BoundRow, RootRow, group-is, pair-row, box-row, bound-row, root-row, tuple-row, kept-pair, kept-box, kept-bound, kept-root, kept-tuple}
+
+true-and : (b : Bool) → (true & b) ≡ b
+unfolding _&_
+true-and b = refl
+
+-- rows of two groups have two keys
+key-split : (b r : Row) (g : ℕ) → r .group ≡ g → (p : Bool) → (b .group ≡ g → same (key b) (key r) ≡ p) → same (key b) (key r) ≡ (eqb (b .group) g & p)
+unfolding key same
+key-split b r g own p h = go (eqb (b .group) g) refl
+  where
+    go : (x : Bool) → eqb (b .group) g ≡ x → same (key b) (key r) ≡ (x & p)
+    go true e = h (eqb-eq e) ∙ sym (true-and p)
+    go false e = iff (λ t. absurd (false≢true (sym e ∙ ap (eqb (b .group)) (sym own) ∙ and-l _ _ t))) (λ t. absurd (false≢true (and-l _ _ t)))
+
+-- keys of rows of one group
+keys-same : (b r : Row) (ks ls : List ℕ) → key b ≡ b .group ∷ ks → key r ≡ r .group ∷ ls → b .group ≡ r .group → same (key b) (key r) ≡ same ks ls
+unfolding same _&_
+keys-same b r ks ls p q e = ap₂ same p q ∙ ap (λ (x : Bool). x & same ks ls) (ap (λ (x : ℕ). eqb x (r .group)) e ∙ eq-eqb (r .group))
+
+two-keys : (a b c d : ℕ) → same (a ∷ b ∷ []) (c ∷ d ∷ []) ≡ (eqb a c & eqb b d)
+unfolding same
+two-keys a b c d = ap (λ (x : Bool). eqb a c & x) (and-true (eqb b d))
+
+-- the rows of a group, each kept
+pub kept-of : (g : ℕ) {above : List Row} → All Kept above → All (λ b. Kept b × (b .group ≡ g)) (ofGroup g above)
+unfolding ofGroup
+kept-of g {above} K = In-All (ofGroup g above) (λ b i. let k = keep-out (λ r. eqb (r .group) g) above i in (All-in K (k .0), eqb-eq (k .1)))
+
+module _ (r : Row) (g : ℕ) (own : r .group ≡ g) (not-q : eqb g groupQ ≡ false) where
+  -- a row repeats one of its group
+  repeat-any : (p : Row → Bool) → ((b : Row) → Kept b → b .group ≡ g → same (key b) (key r) ≡ p b) → {above : List Row} → All Kept above → repeated above r ≡ any p (ofGroup g above)
+  unfolding repeated ofGroup _&_
+  repeat-any p agree {above} K =
+      ap (λ (x : ℕ). not (eqb x groupQ) & any (λ b. same (key b) (key r)) above) own
+      ∙ ap (λ (x : Bool). not x & any (λ b. same (key b) (key r)) above) not-q
+      ∙ any-keep (λ b. same (key b) (key r)) (λ b. eqb (b .group) g) p (λ b k. key-split b r g own (p b) (agree b k)) K
+
+  -- a place that rights were put into
+  place-seen : (place : Row → ℕ) → ((b : Row) → Kept b → b .group ≡ g → (same (key b) (key r) ≡ eqb (place b) (place r)) × (0 < b .rights)) → (n : ℕ) → place r < n → {above : List Row} → All Kept above → not (eqb (getD (gather n place (λ b. b .rights) (ofGroup g above)) (place r) 0) 0) ≡ repeated above r
+  unfolding gather
+  place-seen place agree n low {above} K =
+      ap (λ (x : ℕ). not (eqb x 0)) (getD-table n (λ i. joins (λ b. grant (eqb (place b) i) (b .rights)) (ofGroup g above)) (place r) 0 low)
+      ∙ joins-some (λ b. eqb (place b) (place r)) (λ b. b .rights) (All-turn (λ b k. agree b (k .0) (k .1) .1) (kept-of g K))
+      ∙ sym (repeat-any (λ b. eqb (place b) (place r)) (λ b k q. agree b k q .0) K)
+
+  -- a place that a site was put into
+  site-seen : (place site : Row → ℕ) → ((b : Row) → Kept b → b .group ≡ g → same (key b) (key r) ≡ (eqb (place b) (place r) & eqb (site b) (site r))) → (n : ℕ) → place r < n → {above : List Row} → All Kept above → mem (site r) (getD (gather n place (λ b. 2 ^ site b) (ofGroup g above)) (place r) 0) ≡ repeated above r
+  unfolding gather
+  site-seen place site agree n low {above} K =
+      ap (λ (x : ℕ). mem (site r) x) (getD-table n (λ i. joins (λ b. grant (eqb (place b) i) (2 ^ site b)) (ofGroup g above)) (place r) 0 low)
+      ∙ joins-mem (λ b. eqb (place b) (place r)) site (site r) (ofGroup g above)
+      ∙ sym (repeat-any (λ b. eqb (place b) (place r) & eqb (site b) (site r)) agree K)
+
+  -- a list of what the rows of the group say
+  list-seen : {A : Type 0} (f : Row → A) (p : A → Bool) → ((b : Row) → Kept b → b .group ≡ g → same (key b) (key r) ≡ p (f b)) → (xs : List A) {above : List Row} → All Kept above → xs ≡ map f (ofGroup g above) → any p xs ≡ repeated above r
+  list-seen f p agree xs {above} K e = ap (any p) e ∙ any-map p f (ofGroup g above) ∙ sym (repeat-any (λ b. p (f b)) agree K)
+
+-- R and E rows
+pair-no-q : (g : ℕ) → pairGroup g ≡ true → eqb g groupQ ≡ false
+pair-no-q g p = go (pair-case g p)
+  where
+    go : (g ≡ groupR) ⊎ (g ≡ groupE) → eqb g groupQ ≡ false
+    go (inl e) = rw e
+    go (inr e) = rw e
+
+pair-alike : {s t s' t' : ℕ} {b r : Row} → PairRow s t b → PairRow s' t' r → b .group ≡ r .group → same (key b) (key r) ≡ eqb (pairPlace b) (pairPlace r)
+pair-alike {s} {t} {s'} {t'} {b} {r} B R e =
+    keys-same b r (s ∷ t ∷ []) (s' ∷ t' ∷ []) (B .keyed) (R .keyed) e
+    ∙ two-keys s t s' t'
+    ∙ two-same (λ x y. 32 * x + y) s t s' t' (λ q. (omega (arith, B .t-low, R .t-low), omega (arith, B .t-low, R .t-low)))
+    ∙ sym (ap₂ eqb (B .placed) (R .placed))
+
+module _ (row : RowData) (G : rowGood row ≡ true) (L : inLimits (rowData row) ≡ true) where
+  pub pair-low : pairGroup (row .group) ≡ true → (row .line .target .number < 32) × (row .line .fields .a .number < 32)
+  pair-low P = let R = pair-row row G L P in (R .s-low, R .t-low)
+
+  pub pair-seen : (P : pairGroup (row .group) ≡ true) (at : ℕ) → at ≡ 32 * row .line .target .number + row .line .fields .a .number → (t : List ℕ) {above : List Row} → All Kept above → t ≡ gather 1024 pairPlace (λ x. x .rights) (ofGroup (row .group) above) → not (eqb (getD t at 0) 0) ≡ repeated above (rowData row)
+  pair-seen P at a t {above} K e =
+      let R = pair-row row G L P in
+      let g = group-is row G (ltb-true 0 (row .group) (pair-some (row .group) P)) in
+      let of : (b : Row) → Kept b → b .group ≡ row .group → pairGroup (b .group) ≡ true = λ b k q. subst (λ (x : ℕ). pairGroup x ≡ true) (sym q) P in
+      ap₂ (λ (l : List ℕ) (i : ℕ). not (eqb (getD l i 0) 0)) e (a ∙ sym (R .placed))
+      ∙ place-seen (rowData row) (row .group) g (pair-no-q (row .group) P) pairPlace (λ b k q. (pair-alike (kept-pair k (of b k q)) R (q ∙ sym g), kept-pair k (of b k q) .some)) 1024 (omega (arith, R .placed, R .s-low, R .t-low)) K
+
+-- D rows: `self` stands behind the sites
+toward-low : (b : Bool) (n : ℕ) → all (λ s. ltb s 32) (only b n) ≡ true → getD (only b n) 0 32 ≤ 32
+unfolding all only
+toward-low true n h = omega (arith, ltb-true n 32 (and-l _ _ h))
+toward-low false n h = omega arith
+
+toward-same : (a b : Bool) (m n : ℕ) → all (λ s. ltb s 32) (only a m) ≡ true → all (λ s. ltb s 32) (only b n) ≡ true → same (only a m) (only b n) ≡ eqb (getD (only a m) 0 32) (getD (only b n) 0 32)
+unfolding all only same
+toward-same true true m n h l = and-true (eqb m n)
+toward-same true false m n h l = let g = ltb-true m 32 (and-l _ _ h) in sym (ne-eqb m 32 (λ e. omega arith))
+toward-same false true m n h l = let g = ltb-true n 32 (and-l _ _ l) in sym (ne-eqb 32 n (λ e. omega arith))
+toward-same false false m n h l = refl
+
+pub to-low : (m : Name) → all (λ s. ltb s 32) (sitesTo m) ≡ true → getD (sitesTo m) 0 32 ≤ 32
+unfolding sitesTo
+to-low m h = toward-low (eqb (m .kind) 1) (m .number) h
+
+to-same : (m n : Name) → all (λ s. ltb s 32) (sitesTo m) ≡ true → all (λ s. ltb s 32) (sitesTo n) ≡ true → same (sitesTo m) (sitesTo n) ≡ eqb (getD (sitesTo m) 0 32) (getD (sitesTo n) 0 32)
+unfolding sitesTo
+to-same m n h l = toward-same (eqb (m .kind) 1) (eqb (n .kind) 1) (m .number) (n .number) h l
+
+box-keys : (a c : ℕ) (ks ls : List ℕ) → same (a ∷ ks) (c ∷ ls) ≡ (eqb a c & same ks ls)
+unfolding same
+box-keys a c ks ls = refl
+
+box-alike : {k l : ℕ} {m n : Name} {b r : Row} → BoxRow k m b → BoxRow l n r → b .group ≡ r .group → same (key b) (key r) ≡ eqb (boxPlace b) (boxPlace r)
+box-alike {k} {l} {m} {n} {b} {r} B R e =
+    let x = to-low m (B .t-low) in
+    let y = to-low n (R .t-low) in
+    keys-same b r (k ∷ sitesTo m) (l ∷ sitesTo n) (B .keyed) (R .keyed) e
+    ∙ box-keys k l (sitesTo m) (sitesTo n)
+    ∙ ap (λ (x : Bool). eqb k l & x) (to-same m n (B .t-low) (R .t-low))
+    ∙ two-same (λ x y. 33 * x + y) k (getD (sitesTo m) 0 32) l (getD (sitesTo n) 0 32) (λ q. (omega arith, omega arith))
+    ∙ sym (ap₂ eqb (B .placed) (R .placed))
+
+-- B rows
+bound-alike : {u s v t : ℕ} {b r : Row} → BoundRow u s b → BoundRow v t r → b .group ≡ r .group → same (key b) (key r) ≡ (eqb (nth (b .vars) 0) (nth (r .vars) 0) & eqb (nth (b .sites) 0) (nth (r .sites) 0))
+bound-alike {u} {s} {v} {t} {b} {r} B R e =
+    keys-same b r (u ∷ s ∷ []) (v ∷ t ∷ []) (B .keyed) (R .keyed) e
+    ∙ two-keys u s v t
+    ∙ sym (ap₂ _&_ (ap₂ eqb (B .var-is) (R .var-is)) (ap₂ eqb (B .site-is) (R .site-is)))
+
+module _ (row : RowData) (G : rowGood row ≡ true) (L : inLimits (rowData row) ≡ true) where
+  pub box-low : row .group ≡ groupD → (row .line .sandbox < 32) × (getD (sitesTo (row .line .target)) 0 32 ≤ 32)
+  box-low P = let R = box-row row G L P in (R .k-low, to-low (row .line .target) (R .t-low))
+
+  pub box-seen : row .group ≡ groupD → (at : ℕ) → at ≡ 33 * row .line .sandbox + getD (sitesTo (row .line .target)) 0 32 → (t : List ℕ) {above : List Row} → All Kept above → t ≡ gather 1056 boxPlace (λ x. x .rights) (ofGroup groupD above) → not (eqb (getD t at 0) 0) ≡ repeated above (rowData row)
+  box-seen P at a t {above} K e =
+      let R = box-row row G L P in
+      let g = group-is row G (omega arith) ∙ P in
+      ap₂ (λ (l : List ℕ) (i : ℕ). not (eqb (getD l i 0) 0)) e (a ∙ sym (R .placed))
+      ∙ place-seen (rowData row) groupD g refl boxPlace (λ b k q. (box-alike (kept-box k q) R (q ∙ sym g), kept-box k q .some)) 1056 (omega (arith, R .placed, R .k-low, to-low (row .line .target) (R .t-low))) K
+
+  pub bound-low : row .group ≡ groupB → (row .variable < 32) × (row .line .target .number < 32)
+  bound-low P = let R = bound-row row G L P in (R .u-low, R .s-low)
+
+  pub bound-seen : row .group ≡ groupB → (t : List ℕ) {above : List Row} → All Kept above → t ≡ gather 32 (λ x. nth (x .vars) 0) (λ x. 2 ^ nth (x .sites) 0) (ofGroup groupB above) → mem (row .line .target .number) (getD t (row .variable) 0) ≡ repeated above (rowData row)
+  bound-seen P t {above} K e =
+      let R = bound-row row G L P in
+      let g = group-is row G (omega arith) ∙ P in
+      ap₂ (λ (s u : ℕ). mem s (getD t u 0)) (sym (R .site-is)) (sym (R .var-is))
+      ∙ ap (λ (l : List ℕ). mem (nth (rowData row .sites) 0) (getD l (nth (rowData row .vars) 0) 0)) e
+      ∙ site-seen (rowData row) groupB g refl (λ x. nth (x .vars) 0) (λ x. nth (x .sites) 0) (λ b k q. bound-alike (kept-bound k q) R (q ∙ sym g)) 32 (omega (arith, R .var-is, R .u-low)) K
