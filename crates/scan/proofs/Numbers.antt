@@ -4,7 +4,7 @@ use mathlib.Core.Path.{_≡_, refl, sym, ap, _∙_}
 use mathlib.Core.Bool.{Bool, true, false, not, cond, false≢true}
 use mathlib.Core.List.{List}
 use mathlib.Core.Option.{none, some}
-use Prim.Native.Nat.{ℕ, zero, suc, _<_}
+use Prim.Native.Nat.{ℕ, zero, suc, _+_, _<_}
 use native.Mathlib.Omega.{arith}
 use lib.Dec.{eqb}
 use lib.ListN.{length}
@@ -15,9 +15,11 @@ use Rattle.sets.proofs.Lists.{not-no, not-yes}
 use Rattle.klaim.specs.Rows.{Row, rowLine}
 use Rattle.klaim.specs.Reader.{Text, inLimits, ofGroup, full, over, headed, own, inOrder, repeated, misplaced, siteCount, absent, Judged, bad, good, judge}
 use Rattle.forms.specs.declared.RowData.{RowData}
-use Rattle.forms.specs.Forms.{rowData, rowView, rowGood, plainRow}
+use Rattle.forms.specs.Forms.{rowData, rowView, rowGood, plainRow, tupleGroup}
 use Rattle.forms.proofs.Views.{view-none, view-some}
 use Rattle.judge.proofs.Limits.{Good, q-row, plain-row, good as good-row}
+use Rattle.scan.specs.declared.Tally.{Tally}
+use Rattle.scan.specs.Tallies.{more, countedOf}
 use Rattle.scan.specs.Numbers.{earlyOf, lateOf, numberOf, judgedBy}
 
 -- the group of a row
@@ -112,3 +114,8 @@ module _ (n : ℕ) (r : Row) where
   pub late-none : true ≡ not (absent n r) → false ≡ clash (template (r .process)) → 0 ≡ lateOf n r
   unfolding lateOf
   late-none h c = rw (not-yes (absent n r) (sym h), sym c)
+
+-- a row that is in none of the counts
+pub counted-rest : (r : RowData) (t : Tally) → (r .group ≡ 1 → ⊥) → (r .group ≡ 4 → ⊥) → (r .group ≡ 8 → ⊥) → (r .group ≡ 5 → ⊥) → (r .group ≡ 6 → ⊥) → record { size = t .size; tuples = t .tuples; roots = t .roots; lines = t .lines; last = r .group; turn = t .turn; rows = t .rows + 1; number = t .number } ≡ countedOf r t
+unfolding countedOf more tupleGroup either
+counted-rest r t n u a l q = rw (ne-eqb (r .group) 1 n, ne-eqb (r .group) 4 u, ne-eqb (r .group) 8 a, ne-eqb (r .group) 5 l, ne-eqb (r .group) 6 q)

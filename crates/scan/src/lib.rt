@@ -3,13 +3,21 @@ ghost use mathlib.Core.Path.{_≡_};
 ghost use mathlib.Core.Bool.{true};
 ghost use mathlib.Core.List.{_∷_};
 ghost use Prim.Native.Nat.{_+_, _<_};
+ghost use lib.Dec.{eqb};
 ghost use lib.ListN.{length};
+ghost use Rattle.sets.specs.Lists.{_&_};
 ghost use Rattle.klaim.specs.Rows.{newline};
 ghost use Rattle.text.specs.Pieces.{endOf};
 ghost use Rattle.forms.specs.Forms.{rowView, rowData, rowGood};
 ghost use Rattle.scan.specs.Progress.{rowsLeft};
-ghost use Rattle.scan.specs.Numbers.{earlyOf, lateOf, numberOf};
+ghost use Rattle.scan.specs.Numbers.{earlyOf, lateOf};
+ghost use Rattle.scan.specs.Tallies.{countedOf};
 use forms::RowData;
+use text::GROUP_A;
+use text::GROUP_L;
+use text::GROUP_N;
+use text::GROUP_Q;
+use text::GROUP_T;
 
 // What is kept of the rows above: the n of the text, the tuples, roots and lines that stand in its tables, the last group, whether
 // Q rows are numbered in turn, how many rows; `number` is that of the refusal of the last of them, or 0.
@@ -83,4 +91,52 @@ pub fn turned_away(tally: Tally, number: u8) -> Tally
     r.number = number;
     r.rows = r.rows + 1;
     r
+}
+
+// Whether the Q rows stay in turn.
+fn in_turn(turn: bool, own: usize, lines: usize) -> bool
+    ensures { λ r. ⌜ r ≡ turn & eqb own lines ⌝ }
+{
+    if turn {
+        return own == lines;
+    }
+    false
+}
+
+// The tally with a row let through.
+pub fn counted(row: RowData, tally: Tally) -> Tally
+    requires { ⌜ tally .rows + 1 < 18446744073709551616 ⌝ }
+    requires { ⌜ (tally .tuples < 1000) × (tally .roots < 1000) × (tally .lines < 1000) ⌝ }
+    ensures { λ r. ⌜ r ≡ countedOf row tally ⌝ }
+{
+    let group = row.group;
+    let own = row.own as usize;
+    let mut r = tally;
+    r.last = group;
+    r.rows = r.rows + 1;
+    match group {
+        GROUP_N => {
+            r.size = row.size;
+            r
+        }
+        GROUP_T => {
+            r.tuples = r.tuples + 1;
+            r
+        }
+        GROUP_A => {
+            r.tuples = r.tuples + 1;
+            r
+        }
+        GROUP_L => {
+            r.roots = r.roots + 1;
+            r
+        }
+        GROUP_Q => {
+            let turn = in_turn(r.turn, own, r.lines);
+            r.turn = turn;
+            r.lines = r.lines + 1;
+            r
+        }
+        _ => r,
+    }
 }
