@@ -34,11 +34,6 @@ unfolding any
 any-map p f [] = refl
 any-map p f (x ∷ xs) = ap (either (p (f x))) (any-map p f xs)
 
-pub any-same : {A : Type 0} {P : A → Type 0} (f g : A → Bool) → ((x : A) → P x → f x ≡ g x) → {xs : List A} → All P xs → any f xs ≡ any g xs
-unfolding any
-any-same f g h done = refl
-any-same f g h (more {x = x} a m) = ap₂ either (h x a) (any-same f g h m)
-
 -- a union is not empty if some part of it is not
 join-some : (a b : ℕ) → not (eqb (join a b) 0) ≡ either (not (eqb a 0)) (not (eqb b 0))
 unfolding either

@@ -22,8 +22,8 @@ use Rattle.forms.specs.declared.RowData.{RowData}
 use Rattle.forms.specs.Forms.{rowData, rowGood, pairGroup, tupleGroup}
 use Rattle.forms.proofs.RowForms.{pair-case, tuple-case, pair-some, tuple-some}
 use Rattle.judge.proofs.Tests.{and-true}
-use Rattle.repeats.specs.Kept.{Kept}
-use Rattle.repeats.proofs.Marks.{any-keep, any-map, any-same, joins-some, joins-mem, two-same}
+use Rattle.repeats.specs.Kept.{Kept, rootSame}
+use Rattle.repeats.proofs.Marks.{any-keep, any-map, joins-some, joins-mem, two-same}
 use Rattle.repeats.proofs.Rows.{PairRow, BoxRow, BoundRow, RootRow, group-is, pair-row, box-row, bound-row, root-row, tuple-row, kept-pair, kept-box, kept-bound, kept-root, kept-tuple}
 
 true-and : (b : Bool) → (true & b) ≡ b
@@ -49,7 +49,7 @@ unfolding same
 two-keys a b c d = ap (λ (x : Bool). eqb a c & x) (and-true (eqb b d))
 
 -- the rows of a group, each kept
-pub kept-of : (g : ℕ) {above : List Row} → All Kept above → All (λ b. Kept b × (b .group ≡ g)) (ofGroup g above)
+kept-of : (g : ℕ) {above : List Row} → All Kept above → All (λ b. Kept b × (b .group ≡ g)) (ofGroup g above)
 unfolding ofGroup
 kept-of g {above} K = In-All (ofGroup g above) (λ b i. let k = keep-out (λ r. eqb (r .group) g) above i in (All-in K (k .0), eqb-eq (k .1)))
 
@@ -122,7 +122,7 @@ toward-same true false m n h l = let g = ltb-true m 32 (and-l _ _ h) in sym (ne-
 toward-same false true m n h l = let g = ltb-true n 32 (and-l _ _ l) in sym (ne-eqb 32 n (λ e. omega arith))
 toward-same false false m n h l = refl
 
-pub to-low : (m : Name) → all (λ s. ltb s 32) (sitesTo m) ≡ true → getD (sitesTo m) 0 32 ≤ 32
+to-low : (m : Name) → all (λ s. ltb s 32) (sitesTo m) ≡ true → getD (sitesTo m) 0 32 ≤ 32
 unfolding sitesTo
 to-low m h = toward-low (eqb (m .kind) 1) (m .number) h
 
@@ -172,3 +172,33 @@ module _ (row : RowData) (G : rowGood row ≡ true) (L : inLimits (rowData row) 
       ap₂ (λ (s u : ℕ). mem s (getD t u 0)) (sym (R .site-is)) (sym (R .var-is))
       ∙ ap (λ (l : List ℕ). mem (nth (rowData row .sites) 0) (getD l (nth (rowData row .vars) 0) 0)) e
       ∙ site-seen (rowData row) groupB g refl (λ x. nth (x .vars) 0) (λ x. nth (x .sites) 0) (λ b k q. bound-alike (kept-bound k q) R (q ∙ sym g)) 32 (omega (arith, R .var-is, R .u-low)) K
+
+-- T and A rows
+tuple-no-q : (g : ℕ) → tupleGroup g ≡ true → eqb g groupQ ≡ false
+tuple-no-q g p = go (tuple-case g p)
+  where
+    go : (g ≡ groupT) ⊎ (g ≡ groupA) → eqb g groupQ ≡ false
+    go (inl e) = rw e
+    go (inr e) = rw e
+
+-- L rows
+root-alike : {s q t p : ℕ} {b r : Row} → RootRow s q b → RootRow t p r → b .group ≡ r .group → same (key b) (key r) ≡ rootSame t p (rootOf b)
+unfolding rootSame
+root-alike {s} {q} {t} {p} {b} {r} B R e =
+    keys-same b r (s ∷ q ∷ []) (t ∷ p ∷ []) (B .keyed) (R .keyed) e
+    ∙ two-keys s q t p
+    ∙ ap (λ (x : Root). eqb (x .site) t & eqb (x .line) p) (sym (B .root-is))
+
+module _ (row : RowData) (G : rowGood row ≡ true) (L : inLimits (rowData row) ≡ true) where
+  pub tuple-seen : (P : tupleGroup (row .group) ≡ true) (ss : List ℕ) → ss ≡ rowData row .sites → (xs : List (List ℕ)) {above : List Row} → All Kept above → xs ≡ map (λ x. x .sites) (ofGroup (row .group) above) → any (λ x. same x ss) xs ≡ repeated above (rowData row)
+  tuple-seen P ss s xs {above} K e =
+      let g = group-is row G (ltb-true 0 (row .group) (tuple-some (row .group) P)) in
+      let of : (b : Row) → Kept b → b .group ≡ row .group → tupleGroup (b .group) ≡ true = λ b k q. subst (λ (x : ℕ). tupleGroup x ≡ true) (sym q) P in
+      list-seen (rowData row) (row .group) g (tuple-no-q (row .group) P) (λ x. x .sites) (λ x. same x ss)
+      (λ b k q. keys-same b (rowData row) (b .sites) (rowData row .sites) (kept-tuple k (of b k q)) (tuple-row row G P) (q ∙ sym g) ∙ ap (same (b .sites)) (sym s)) xs K e
+
+  pub root-seen : row .group ≡ groupL → (xs : List Root) {above : List Row} → All Kept above → xs ≡ map rootOf (ofGroup groupL above) → any (rootSame (row .line .target .number) (row .own)) xs ≡ repeated above (rowData row)
+  root-seen P xs {above} K e =
+      let R = root-row row G L P in
+      let g = group-is row G (omega arith) ∙ P in
+      list-seen (rowData row) groupL g refl rootOf (rootSame (row .line .target .number) (row .own)) (λ b k q. root-alike (kept-root k q) R (q ∙ sym g)) xs K e

@@ -1,7 +1,7 @@
 -- What a row of each group shows: its key, its place in a table, its numbers within their limits.
 -- Assumes nothing.
 use mathlib.Core.Path.{_≡_, refl, sym, ap, subst, _∙_}
-use mathlib.Core.Bool.{Bool, true, false}
+use mathlib.Core.Bool.{true}
 use mathlib.Core.List.{List, [], _∷_}
 use mathlib.Core.Option.{some}
 use Prim.Native.Nat.{ℕ, _+_, _*_, _<_}
@@ -9,12 +9,11 @@ use native.Mathlib.Omega.{arith}
 use lib.Dec.{ltb}
 use lib.ListN.{getD}
 use borrow.Author.Tests.{lt-ltb, ltb-true}
-use Rattle.sets.specs.Lists.{_&_, imp, all, _∪_}
+use Rattle.sets.specs.Lists.{all, _∪_}
 use Rattle.sets.proofs.Lists.{and-l, and-r}
 use Rattle.sets.proofs.Runs.{union-none}
 use Rattle.klaim.specs.Limits.{siteLimit, varLimit, boxLimit, lineLimit}
 use Rattle.klaim.specs.Rows.{Row, rowLine, groupD, groupL, groupB}
-use Rattle.klaim.specs.Net.{Root}
 use Rattle.klaim.specs.Reader.{inLimits, key, nth, pairPlace, boxPlace, rootOf}
 use Rattle.text.specs.declared.Name.{Name}
 use Rattle.text.specs.Fields.{sitesTo}

@@ -2,18 +2,18 @@
 ghost use mathlib.Core.Path.{_≡_};
 ghost use mathlib.Core.Bool.{true};
 ghost use mathlib.Core.List.{List, map};
-ghost use Prim.Native.Nat.{ℕ, _+_, _*_, _^_, _<_, _≤_};
-ghost use lib.Dec.{eqb};
+ghost use Prim.Native.Nat.{_^_, _<_, _≤_};
 ghost use lib.ListN.{length, getD};
-ghost use Rattle.sets.specs.Lists.{All, _&_, any, same};
+ghost use Rattle.sets.specs.Lists.{All, any, same};
 ghost use Rattle.klaim.specs.Rows.{Row, groupD, groupL, groupB};
-ghost use Rattle.klaim.specs.Net.{Root};
 ghost use Rattle.klaim.specs.Reader.{inLimits, ofGroup, repeated, nth, gather, pairPlace, boxPlace, rootOf};
 ghost use Rattle.text.specs.Fields.{sitesTo};
 ghost use Rattle.forms.specs.Forms.{rowData, rowGood, pairGroup, tupleGroup};
-ghost use Rattle.tables.specs.View.{rowAt, rowsView, rootsView};
-ghost use Rattle.repeats.specs.Kept.{Kept};
+ghost use Rattle.tables.specs.View.{rowAt, rowsView, rootAt, rootsView};
+ghost use Rattle.repeats.specs.Kept.{Kept, rootSame};
 use forms::RowData;
+use tables::ROOT;
+use tables::TUPLE;
 use text::Name;
 use text::SITE;
 
@@ -78,4 +78,105 @@ pub fn bound_seen(t: &[u32; 32], row: RowData) -> bool
     let u = row.variable as usize;
     let s = target.number as u8;
     sets::has_site(t[u], s)
+}
+
+// How many sites a tuple's bytes have.
+fn sites_in(b: [u8; 6]) -> usize
+    ensures { λ r. ⌜ r ≡ length (rowAt b 0) ⌝ }
+{
+    let n = matching::wide(b[0]);
+    if n < 5 { n } else { 5 }
+}
+
+// Whether tuple i of a table is the tuple b.
+fn same_row(rows: &[u8; 1536], i: usize, b: [u8; 6]) -> bool
+    requires { ⌜ i < 256 ⌝ }
+    requires { ⌜ length (now rows) ≡ 1536 ⌝ }
+    ensures { λ r. ⌜ r ≡ same (rowAt (now (rows .entry)) i) (rowAt b 0) ⌝ }
+{
+    let n = sites_in(b);
+    if matching::row_len(rows, i) != n {
+        return false;
+    }
+    let at = TUPLE * i + 1;
+    let mut j: usize = 0;
+    while j < n {
+        if rows[at + j] != b[1 + j] {
+            return false;
+        }
+        j += 1;
+    }
+    true
+}
+
+// Whether one of the n tuples of a table is the tuple b.
+fn has_row(rows: &[u8; 1536], n: usize, b: [u8; 6]) -> bool
+    requires { ⌜ n ≤ 256 ⌝ }
+    requires { ⌜ length (now rows) ≡ 1536 ⌝ }
+    ensures { λ r. ⌜ r ≡ any (λ x. same x (rowAt b 0)) (rowsView n (now (rows .entry))) ⌝ }
+{
+    let mut i: usize = 0;
+    while i < n {
+        if same_row(rows, i, b) {
+            return true;
+        }
+        i += 1;
+    }
+    false
+}
+
+// 3: whether a T or an A row repeats one above: its tuple stands in the table.
+pub fn tuple_seen(rows: &[u8; 1536], n: usize, row: RowData) -> bool
+    requires { ⌜ rowGood row ≡ true ⌝ }
+    requires { ⌜ inLimits (rowData row) ≡ true ⌝ }
+    requires { ⌜ length (now rows) ≡ 1536 ⌝ }
+    requires { ⌜ tupleGroup (row .group) ≡ true ⌝ }
+    requires { ⌜ n ≤ 256 ⌝ }
+    ensures { λ r. ⌜ ((above : List Row) → All Kept above → rowsView n (now (rows .entry)) ≡ map (λ x. x .sites) (ofGroup (row .group) above) → r ≡ repeated above (rowData row)) ⌝ }
+{
+    has_row(rows, n, entries::tuple_bytes(row))
+}
+
+// Whether root i of a table is line q at site s.
+fn root_is(roots: &[u8; 128], i: usize, s: usize, q: usize) -> bool
+    requires { ⌜ i < 64 ⌝ }
+    requires { ⌜ length (now roots) ≡ 128 ⌝ }
+    ensures { λ r. ⌜ r ≡ rootSame s q (rootAt (now (roots .entry)) i) ⌝ }
+{
+    if matching::wide(roots[ROOT * i]) != s {
+        return false;
+    }
+    matching::wide(roots[ROOT * i + 1]) == q
+}
+
+// Whether one of the n roots of a table is line q at site s.
+fn has_root(roots: &[u8; 128], n: usize, s: usize, q: usize) -> bool
+    requires { ⌜ n ≤ 64 ⌝ }
+    requires { ⌜ length (now roots) ≡ 128 ⌝ }
+    ensures { λ r. ⌜ r ≡ any (rootSame s q) (rootsView n (now (roots .entry))) ⌝ }
+{
+    let mut i: usize = 0;
+    while i < n {
+        if root_is(roots, i, s, q) {
+            return true;
+        }
+        i += 1;
+    }
+    false
+}
+
+// 3: whether an L row repeats one above: its root stands in the table.
+pub fn root_seen(roots: &[u8; 128], n: usize, row: RowData) -> bool
+    requires { ⌜ rowGood row ≡ true ⌝ }
+    requires { ⌜ inLimits (rowData row) ≡ true ⌝ }
+    requires { ⌜ length (now roots) ≡ 128 ⌝ }
+    requires { ⌜ row .group ≡ groupL ⌝ }
+    requires { ⌜ n ≤ 64 ⌝ }
+    ensures { λ r. ⌜ ((above : List Row) → All Kept above → rootsView n (now (roots .entry)) ≡ map rootOf (ofGroup groupL above) → r ≡ repeated above (rowData row)) ⌝ }
+{
+    let line = row.line;
+    let target = line.target;
+    let s = target.number as usize;
+    let q = row.own as usize;
+    has_root(roots, n, s, q)
 }

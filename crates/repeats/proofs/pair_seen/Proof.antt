@@ -18,10 +18,15 @@ add-at : tie.Need-add-at
 add-at c = search needs
 
 element-copy-out-result : tie.Need-element-copy-out-result
-element-copy-out-result c = let s = c .before .before .before .before .before .before in let l = pair-low (s .args .row) (s .pre .0) (s .pre .1 .0) (s .pre .1 .1 .1) in omega arith
+element-copy-out-result c =
+    let s = c .before .before .before .before .before .before in
+    let l = pair-low (s .args .row) (s .pre .0) (s .pre .1 .0) (s .pre .1 .1 .1) in
+    omega arith
 
 returns : tie.Need-returns
-returns c = let s = c .before .before .before .before .before .before .before in λ above K e. pair-seen (s .args .row) (s .pre .0) (s .pre .1 .0) (s .pre .1 .1 .1) _ refl _ K e
+returns c =
+    let s = c .before .before .before .before .before .before .before in
+    λ above K e. pair-seen (s .args .row) (s .pre .0) (s .pre .1 .0) (s .pre .1 .1 .1) _ refl _ K e
 
 pub pair-seen-spec : {M : Type 1} → statement M
 pair-seen-spec =
