@@ -69,7 +69,7 @@ row-same l b q p u v h =
         rw (x, y) (h (1 + j) (omega arith))
 
 -- an entry that is put behind the first n keeps these
-grown : {A : Type 0} (n : ℕ) (f g : ℕ → A) (x : A) → ((k : ℕ) → k < n → f k ≡ g k) → f n ≡ x → table (n + 1) f ≡ table n g ++ (x ∷ [])
+pub grown : {A : Type 0} (n : ℕ) (f g : ℕ → A) (x : A) → ((k : ℕ) → k < n → f k ≡ g k) → f n ≡ x → table (n + 1) f ≡ table n g ++ (x ∷ [])
 grown n f g x h e = ap (λ (k : ℕ). table k f) (add-one n) ∙ table-snoc n f ∙ rw (same-table n f g x h, e)
 
 pub lines-put : {t b l : List ℕ} (q : ℕ) → Put t b (10 * q) 10 l → 10 * q + 10 ≤ length t → length b ≡ 10 → linesView (q + 1) l ≡ linesView q t ++ (lineOf b 0 ∷ [])
