@@ -40,7 +40,7 @@ bytes-same m l b x y p q h =
     at : (i : ℕ) → i < m → getD (take m (drop x l)) i 0 ≡ getD (take m (drop y b)) i 0
     at i g = getD-take m (drop x l) i 0 g ∙ getD-drop x l i 0 ∙ h i g ∙ sym (getD-take m (drop y b) i 0 g ∙ getD-drop y b i 0)
 
-line-same : (l b : List ℕ) (q p : ℕ) → 10 * q + 10 ≤ length l → 10 * p + 10 ≤ length b → ((j : ℕ) → j < 10 → getD l (10 * q + j) 0 ≡ getD b (10 * p + j) 0) → lineOf l q ≡ lineOf b p
+pub line-same : (l b : List ℕ) (q p : ℕ) → 10 * q + 10 ≤ length l → 10 * p + 10 ≤ length b → ((j : ℕ) → j < 10 → getD l (10 * q + j) 0 ≡ getD b (10 * p + j) 0) → lineOf l q ≡ lineOf b p
 unfolding lineOf fieldBytes
 line-same l b q p u v h =
     rw (h 0 (omega arith), h 1 (omega arith), h 2 (omega arith), h 3 (omega arith), h 4 (omega arith), h 5 (omega arith), bytes-same 4 l b (10 * q + 6) (10 * p + 6) (omega arith) (omega arith) (λ j g. later j g))
@@ -69,7 +69,7 @@ row-same l b q p u v h =
         rw (x, y) (h (1 + j) (omega arith))
 
 -- an entry that is put behind the first n keeps these
-grown : {A : Type 0} (n : ℕ) (f g : ℕ → A) (x : A) → ((k : ℕ) → k < n → f k ≡ g k) → f n ≡ x → table (n + 1) f ≡ table n g ++ (x ∷ [])
+pub grown : {A : Type 0} (n : ℕ) (f g : ℕ → A) (x : A) → ((k : ℕ) → k < n → f k ≡ g k) → f n ≡ x → table (n + 1) f ≡ table n g ++ (x ∷ [])
 grown n f g x h e = ap (λ (k : ℕ). table k f) (add-one n) ∙ table-snoc n f ∙ rw (same-table n f g x h, e)
 
 pub lines-put : {t b l : List ℕ} (q : ℕ) → Put t b (10 * q) 10 l → 10 * q + 10 ≤ length t → length b ≡ 10 → linesView (q + 1) l ≡ linesView q t ++ (lineOf b 0 ∷ [])
