@@ -119,3 +119,17 @@ module _ (n : ℕ) (r : Row) where
 pub counted-rest : (r : RowData) (t : Tally) → (r .group ≡ 1 → ⊥) → (r .group ≡ 4 → ⊥) → (r .group ≡ 8 → ⊥) → (r .group ≡ 5 → ⊥) → (r .group ≡ 6 → ⊥) → record { size = t .size; tuples = t .tuples; roots = t .roots; lines = t .lines; last = r .group; turn = t .turn; rows = t .rows + 1; number = t .number } ≡ countedOf r t
 unfolding countedOf more tupleGroup either
 counted-rest r t n u a l q = rw (ne-eqb (r .group) 1 n, ne-eqb (r .group) 4 u, ne-eqb (r .group) 8 a, ne-eqb (r .group) 5 l, ne-eqb (r .group) 6 q)
+
+-- the first test that a row fails
+module _ (e : ℕ) (again : Bool) (l : ℕ) where
+  pub number-first : (e ≡ 0 → ⊥) → numberOf e again l ≡ e
+  unfolding numberOf
+  number-first h = rw (ne-eqb e 0 h)
+
+  pub number-again : e ≡ 0 → again ≡ true → numberOf e again l ≡ 3
+  unfolding numberOf
+  number-again z a = rw (z, a)
+
+  pub number-last : e ≡ 0 → again ≡ false → numberOf e again l ≡ l
+  unfolding numberOf
+  number-last z a = rw (z, a)

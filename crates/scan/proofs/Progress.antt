@@ -1,16 +1,19 @@
 -- Laws of a loop over the rows of a text.
 -- Assumes nothing.
-use mathlib.Core.Path.{_≡_, refl, sym, ap, _∙_}
+use mathlib.Core.Path.{_≡_, refl, sym, ap, subst, _∙_}
 use mathlib.Core.Bool.{Bool, true, false, cond}
 use mathlib.Core.List.{List, [], _∷_, _++_}
 use mathlib.Core.Option.{Option}
 use Prim.Native.Nat.{ℕ, zero, suc, _+_, _-_, _<_, _≤_}
 use native.Mathlib.Omega.{arith}
-use lib.ListN.{length, take, drop, length-append}
+use lib.ListN.{length, take, drop, replicate, length-append}
+use Rattle.sets.specs.Lists.{keep, table, tableFrom}
+use Rattle.sets.specs.Bits.{joins}
 use borrow.Author.Tests.{ne-eqb}
 use Rattle.klaim.specs.Rows.{Row, newline, rowsOf, rowOf}
-use Rattle.klaim.specs.Reader.{Answer, refused, gives, Text, Judged, bad, good, judge, scan, readRows}
+use Rattle.klaim.specs.Reader.{Answer, refused, gives, Text, Judged, bad, good, judge, scan, readRows, gather, ofGroup}
 use Rattle.text.specs.Pieces.{endOf}
+use Rattle.text.proofs.Pieces.{end-le}
 use Rattle.text.proofs.Rows.{rows-next, rows-left, rows-end}
 use Rattle.forms.specs.declared.RowData.{RowData}
 use Rattle.forms.specs.Forms.{rowView, rowData}
@@ -60,3 +63,22 @@ progress-end (ended z e) h = absurd (omega arith)
 pub progress-refused : {t : Text} {P : List Row → Type 0} {bytes : List ℕ} {at number count : ℕ} → Progress t P bytes at number count → (number ≡ 0 → ⊥) → readRows t bytes ≡ refused number count
 progress-refused (going above z m p e) h = absurd (h z)
 progress-refused (ended z e) h = e
+
+-- as long as no row is refused, rows stand above
+pub going-on : {t : Text} {P : List Row → Type 0} {bytes : List ℕ} {at number count : ℕ} → Progress t P bytes at number count → number ≡ 0 → (above : List Row) × P above × (length above ≡ count) × (readRows t bytes ≡ scan t above (rowsLeft bytes at))
+going-on (going above z m p e) q = (above, p, m, e)
+going-on (ended z e) q = absurd (omega arith)
+
+-- a row ends within the text
+pub row-within : (s : List ℕ) (at e : ℕ) → e ≡ endOf newline s at → at < length s → e ≤ length s
+row-within s at e q h = subst (λ (k : ℕ). k ≤ length s) (sym q) (end-le newline s at (omega arith))
+
+-- a table of zeros holds no rows
+zeros : (m i : ℕ) → replicate {A = ℕ} m 0 ≡ tableFrom m i (λ k. 0)
+unfolding tableFrom
+zeros zero i = refl
+zeros (suc m) i = ap (λ (xs : List ℕ). 0 ∷ xs) (zeros m (suc i))
+
+pub gather-none : (m : ℕ) (place value : Row → ℕ) (g : ℕ) → replicate {A = ℕ} m 0 ≡ gather m place value (ofGroup g [])
+unfolding gather ofGroup keep joins table
+gather-none m place value g = zeros m 0

@@ -1,6 +1,6 @@
 -- The tally of the rows above, with a row more.
 -- Assumes nothing.
-use mathlib.Core.Bool.{Bool, cond}
+use mathlib.Core.Bool.{Bool, true, cond}
 use Prim.Native.Nat.{ℕ, _+_}
 use lib.Dec.{eqb}
 use Rattle.sets.specs.Lists.{_&_}
@@ -24,3 +24,7 @@ countedOf r t = record {
   rows = t .rows + 1;
   number = t .number;
 }
+
+-- the tally of no rows, n given
+unfoldable pub startOf : ℕ → Tally
+startOf n = record { size = n; tuples = 0; roots = 0; lines = 0; last = 0; turn = true; rows = 0; number = 0 }

@@ -11,7 +11,7 @@ ghost use Rattle.text.specs.Pieces.{endOf};
 ghost use Rattle.forms.specs.Forms.{rowView, rowData, rowGood};
 ghost use Rattle.scan.specs.Progress.{rowsLeft};
 ghost use Rattle.scan.specs.Numbers.{earlyOf, lateOf};
-ghost use Rattle.scan.specs.Tallies.{countedOf};
+ghost use Rattle.scan.specs.Tallies.{countedOf, startOf};
 use forms::RowData;
 use text::GROUP_A;
 use text::GROUP_L;
@@ -30,6 +30,22 @@ pub struct Tally {
     pub turn: bool,
     pub rows: usize,
     pub number: u8,
+}
+
+// The tally of no rows, n given.
+pub fn start(n: u16) -> Tally
+    ensures { λ r. ⌜ r ≡ startOf n ⌝ }
+{
+    Tally {
+        size: n,
+        tuples: 0,
+        roots: 0,
+        lines: 0,
+        last: 0,
+        turn: true,
+        rows: 0,
+        number: 0,
+    }
 }
 
 // The row that begins at `at` and ends at `end`. Bytes behind the last newline are no row.
@@ -86,6 +102,7 @@ pub fn turned_away(tally: Tally, number: u8) -> Tally
     requires { ⌜ tally .rows + 1 < 18446744073709551616 ⌝ }
     ensures { λ r. ⌜ r .number ≡ number ⌝ }
     ensures { λ r. ⌜ r .rows ≡ tally .rows + 1 ⌝ }
+    ensures { λ r. ⌜ (r .size ≡ tally .size) × (r .tuples ≡ tally .tuples) × (r .roots ≡ tally .roots) × (r .lines ≡ tally .lines) ⌝ }
 {
     let mut r = tally;
     r.number = number;
