@@ -1,11 +1,11 @@
 -- Laws of what a state says of the call behind it.
 -- Assumes nothing.
 use mathlib.Core.Path.{_≡_}
-use Prim.Native.Nat.{ℕ, _<_}
+use Prim.Native.Nat.{_<_}
 use native.Mathlib.Omega.{arith}
 use borrow.Author.Tests.{ne-eqb}
-use Rattle.klaim.specs.Reader.{Answer, refused, gives}
-use Rattle.klaim.specs.Engine.{Event, brought, silent, performed}
+use Rattle.klaim.specs.Reader.{refused, gives}
+use Rattle.klaim.specs.Engine.{brought, silent, performed}
 use Rattle.state.specs.declared.Told.{Told}
 use Rattle.state.specs.View.{eventView, answerView}
 
