@@ -1,22 +1,20 @@
 -- One row more in the tables and the tally of an estimate, and the tests on the rows above.
 -- Assumes nothing.
-use mathlib.Core.Path.{_≡_, refl, sym, ap, ap₂, subst, _∙_}
-use mathlib.Core.Logic.{_⊎_, inl, inr}
+use mathlib.Core.Path.{_≡_, refl, sym, ap, subst, _∙_}
 use mathlib.Core.Bool.{Bool, true, false, cond, false≢true}
 use mathlib.Core.List.{List, [], _∷_, _++_, map}
-use Prim.Native.Nat.{ℕ, zero, suc, _+_, _<_, _≤_, _^_}
+use Prim.Native.Nat.{ℕ, _+_, _<_, _≤_, _^_}
 use native.Mathlib.Omega.{arith}
 use native.Mathlib.Decide.{ℕ-discrete}
 use lib.Dec.{eqb, leb}
 use lib.ListN.{length, length-append, length-map}
-use borrow.Author.Tests.{eq-eqb, ne-eqb}
+use borrow.Author.Tests.{ne-eqb}
 use Rattle.sets.specs.Lists.{All, done, more, _&_, either}
 use Rattle.sets.proofs.Lists.{and-l, and-r, eqb-eq, leb-le, nleb-lt, All-append}
 use Rattle.sets.proofs.Tables.{length-table}
-use Rattle.klaim.specs.Limits.{tupleLimit}
-use Rattle.klaim.specs.Rows.{Row, groupN, groupR, groupD, groupT, groupL, groupQ, groupB, groupA, groupE}
-use Rattle.klaim.specs.Reader.{anEstimate, inLimits, ofGroup, present, full, headed, own, inOrder, siteCount, repeated, judge, gather, pairPlace, nth}
-use Rattle.klaim.proofs.Above.{group-other, map-other, map-own, last-none, last-snoc}
+use Rattle.klaim.specs.Rows.{Row, groupN, groupT, groupL, groupQ, groupB, groupA, groupE}
+use Rattle.klaim.specs.Reader.{anEstimate, ofGroup, present, full, headed, own, inOrder, siteCount, repeated, judge, gather, pairPlace, nth}
+use Rattle.klaim.proofs.Above.{group-other, map-other, map-own, last-snoc}
 use Rattle.tables.specs.View.{rowsView}
 use Rattle.forms.specs.declared.RowData.{RowData}
 use Rattle.forms.specs.Forms.{rowData, rowView, rowGood, plainGood, pairGroup, tupleGroup}
@@ -26,7 +24,6 @@ use Rattle.scan.specs.Tallies.{countedOf}
 use Rattle.scan.specs.Tallies as Tallies
 use Rattle.scan.proofs.Numbers.{group-is, formed, not-formed, early-passed}
 use Rattle.scan.proofs.Tallies.{and-under, group-none}
-use Rattle.repeats.specs.Kept.{Kept}
 use Rattle.repeats.proofs.Rows.{as-kept}
 use Rattle.estimates.specs.Rows.{EstimateTables, EstimateTally, Passed, fullOf, placedOf}
 
@@ -153,3 +150,52 @@ last-group row t G P b a = go (ℕ-discrete (row .group) groupE)
         let l = leb-le groupB g (and-l _ _ (P .placed)) in
         let no-group = rw (ne-eqb g 0 (λ z. omega arith), ne-eqb g 6 (λ z. omega arith), ne-eqb g 2 (λ z. omega arith), ne-eqb g 9 e, ne-eqb g 4 (λ z. omega arith), ne-eqb g 8 a, ne-eqb g 1 (λ z. omega arith), ne-eqb g 3 (λ z. omega arith), ne-eqb g 5 (λ z. omega arith), ne-eqb g 7 b) at G in
         absurd (false≢true (and-l _ _ (and-r _ _ no-group)))
+
+-- there is room for one A row more
+pub room-a : (row : RowData) (t : Tally) → Passed row t → row .group ≡ groupA → t .tuples < 256
+unfolding fullOf _&_
+room-a row t P e = nleb-lt 256 (t .tuples) (rw e at (P .room))
+
+-- how many tuples stand in the table behind a row
+module _ (row : RowData) (t : Tally) where
+  tuples-by : (b : Bool) → tupleGroup (row .group) ≡ b → cond b (t .tuples + 1) (t .tuples) ≡ countedOf row t .tuples
+  unfolding countedOf Tallies.more
+  tuples-by b e = ap (λ (x : Bool). cond x (t .tuples + 1) (t .tuples)) (sym e)
+
+  pub tuples-b : row .group ≡ groupB → t .tuples ≡ countedOf row t .tuples
+  unfolding tupleGroup either
+  tuples-b e = tuples-by false (ap tupleGroup e)
+
+  pub tuples-a : row .group ≡ groupA → t .tuples + 1 ≡ countedOf row t .tuples
+  unfolding tupleGroup either
+  tuples-a e = tuples-by true (ap tupleGroup e)
+
+  pub tuples-e : row .group ≡ groupE → t .tuples ≡ countedOf row t .tuples
+  unfolding tupleGroup either
+  tuples-e e = tuples-by false (ap tupleGroup e)
+
+-- the tuples stay within their limit
+pub tuples-few : (row : RowData) (t : Tally) → Passed row t → t .tuples ≤ 256 → countedOf row t .tuples ≤ 256
+unfolding countedOf Tallies.more tupleGroup either placedOf
+tuples-few row t P h = go (ℕ-discrete (row .group) groupA)
+  where
+    go : Dec (row .group ≡ groupA) → countedOf row t .tuples ≤ 256
+    go (yes e) = omega (arith, tuples-a row t e, room-a row t P e)
+    go (no e) =
+        let l = leb-le groupB (row .group) (and-l _ _ (P .placed)) in
+        rw (ne-eqb (row .group) groupT (λ z. omega arith), ne-eqb (row .group) groupA e) h
+
+-- the tables with a row put in
+module _ (row : RowData) (t : Tally) (G : rowGood row ≡ true) (P : Passed row t) {above : List Row} {binds stand hold new : List ℕ} (T : EstimateTables above binds stand (t .tuples) hold) where
+  pub stored-b : row .group ≡ groupB → (binds ≡ gather 32 (λ r. nth (r .vars) 0) (λ r. 2 ^ nth (r .sites) 0) (ofGroup (row .group) above) → new ≡ gather 32 (λ r. nth (r .vars) 0) (λ r. 2 ^ nth (r .sites) 0) (ofGroup (row .group) (above ++ (rowData row ∷ [])))) → EstimateTables (above ++ (rowData row ∷ [])) new stand (countedOf row t .tuples) hold
+  stored-b e h =
+      let by = subst (λ (g : ℕ). binds ≡ gather 32 (λ r. nth (r .vars) 0) (λ r. 2 ^ nth (r .sites) 0) (ofGroup g above) → new ≡ gather 32 (λ r. nth (r .vars) 0) (λ r. 2 ^ nth (r .sites) 0) (ofGroup g (above ++ (rowData row ∷ [])))) e h in
+      subst (λ (k : ℕ). EstimateTables (above ++ (rowData row ∷ [])) new stand k hold) (tuples-b row t e) (tables-b T (rowData row) (group-is row G (P .some) ∙ e) (by (T .bindsIs)))
+
+  pub stored-a : row .group ≡ groupA → length new ≡ 1536 → rowsView (t .tuples + 1) new ≡ rowsView (t .tuples) stand ++ (rowData row .sites ∷ []) → EstimateTables (above ++ (rowData row ∷ [])) binds new (countedOf row t .tuples) hold
+  stored-a e l h = subst (λ (k : ℕ). EstimateTables (above ++ (rowData row ∷ [])) binds new k hold) (tuples-a row t e) (tables-a T (rowData row) (group-is row G (P .some) ∙ e) l h)
+
+  pub stored-e : row .group ≡ groupE → (hold ≡ gather 1024 pairPlace (λ r. r .rights) (ofGroup (row .group) above) → new ≡ gather 1024 pairPlace (λ r. r .rights) (ofGroup (row .group) (above ++ (rowData row ∷ [])))) → EstimateTables (above ++ (rowData row ∷ [])) binds stand (countedOf row t .tuples) new
+  stored-e e h =
+      let by = subst (λ (g : ℕ). hold ≡ gather 1024 pairPlace (λ r. r .rights) (ofGroup g above) → new ≡ gather 1024 pairPlace (λ r. r .rights) (ofGroup g (above ++ (rowData row ∷ [])))) e h in
+      subst (λ (k : ℕ). EstimateTables (above ++ (rowData row ∷ [])) binds stand k new) (tuples-e row t e) (tables-e T (rowData row) (group-is row G (P .some) ∙ e) (by (T .holdIs)))
