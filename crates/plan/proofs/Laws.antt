@@ -1,0 +1,153 @@
+-- Laws of what a step comes to, case by case.
+-- Assumes nothing.
+use mathlib.Core.Path.{_≡_, sym, ap, ap₂, subst, _∙_}
+use mathlib.Core.Bool.{Bool, true, false, cond}
+use mathlib.Core.List.{List, [], _∷_, _++_, map}
+use Prim.Native.Nat.{ℕ, suc, _<_, _≤_}
+use native.Mathlib.Omega.{arith}
+use borrow.Author.Tests.{eq-eqb, ne-eqb}
+use lib.Dec.{eqb}
+use lib.ListN.{length, getD, getElem?, take, drop, drop-of-length-le}
+use lib.Seq.{drop-cons, length-take-le, getD-take}
+use Rattle.sets.specs.Lists.{either, any, among}
+use Rattle.sets.proofs.Lists.{among-in}
+use Rattle.klaim.specs.declared.Loc.{Loc}
+use Rattle.klaim.specs.declared.Slot.{Slot}
+use Rattle.klaim.specs.declared.Slot.the-variants.{Value}
+use Rattle.klaim.specs.Process.{Line, lineAt, tree}
+use Rattle.klaim.specs.Net.{Net, Estimate}
+use Rattle.klaim.specs.Report.{door}
+use Rattle.klaim.specs.Engine.{Plan, stop, quiet, act, after, to, under, value, bindAll, agrees, getPlan, acceptPlan, plan}
+use Rattle.klaim.specs.Process as Process
+use Rattle.klaim.specs.State as Spec
+use Rattle.tables.specs.declared.Action.{Action}
+use Rattle.tables.specs.View.{fieldBytes, linesView, actionLine, rowsView, rowAt, LowAction, Decoded, InForm}
+use Rattle.tables.proofs.Lines.{line-view}
+use Rattle.threads.specs.declared.Thread.{Thread}
+use Rattle.threads.specs.View.{threadView, rebound}
+use Rattle.tuples.proofs.Rows.{row-some, row-none}
+use Rattle.plan.specs.declared.Move.{Move}
+use Rattle.plan.specs.Move.{planView, Tables, Plannable, Guests, Admits}
+
+-- a refusal has a number
+pub stop-view : (v : Move) (st : Spec.State) (k m : ℕ) → 0 < v .stop → planView st k m v ≡ stop (v .stop)
+unfolding planView
+stop-view v st k m h = rw (ne-eqb (v .stop) 0 (omega arith))
+
+module _ (st : Spec.State) (k m r : ℕ) (th : Spec.Thread) where
+  pub plan-par : (a b : ℕ) {t u : Spec.Thread} → t ≡ to th a → u ≡ to th b → quiet (after st k t (Spec.settle (st .lines) u) (st .tuples)) ≡ plan st k th m r (Process.Par a b)
+  unfolding plan
+  plan-par a b p q = ap₂ (λ (t u : Spec.Thread). quiet (after st k t (Spec.settle (st .lines) u) (st .tuples))) p q
+
+  pub plan-rep : (a : ℕ) {u : Spec.Thread} → u ≡ to th a → quiet (after st k th (Spec.settle (st .lines) u) (st .tuples)) ≡ plan st k th m r (Process.Rep a)
+  unfolding plan
+  plan-rep a q = ap (λ (u : Spec.Thread). quiet (after st k th (Spec.settle (st .lines) u) (st .tuples))) q
+
+  pub plan-out : (a : ℕ) (g : Loc) (fs : List Loc) {v : ℕ} {t : Spec.Thread} {row : List ℕ} → v ≡ value (th .site) (th .bindings) g → t ≡ to th a → row ≡ map (value (th .site) (th .bindings)) (g ∷ fs) → act v 1 (after st k t [] (st .tuples ++ (row ∷ []))) ≡ plan st k th m r (Process.Out a g fs)
+  unfolding plan
+  plan-out a g fs {v} p q e =
+      ap₂ (λ (t : Spec.Thread) (row : List ℕ). act v 1 (after st k t [] (st .tuples ++ (row ∷ [])))) q e
+      ∙ ap (λ (v : ℕ). act v 1 (after st k (to th a) [] (st .tuples ++ (map (value (th .site) (th .bindings)) (g ∷ fs) ∷ [])))) p
+
+  pub plan-eval : (a : ℕ) (g : Loc) (b d : ℕ) {v : ℕ} {t u : Spec.Thread} → v ≡ value (th .site) (th .bindings) g → t ≡ to th a → u ≡ under (st .net) d v b (th .bindings) → act v 8 (after st k t (Spec.settle (st .lines) u) (st .tuples)) ≡ plan st k th m r (Process.Eval a g b d)
+  unfolding plan
+  plan-eval a g b d {v} p q e =
+      ap₂ (λ (t u : Spec.Thread). act v 8 (after st k t (Spec.settle (st .lines) u) (st .tuples))) q e
+      ∙ ap (λ (v : ℕ). act v 8 (after st k (to th a) (Spec.settle (st .lines) (under (st .net) d v b (th .bindings))) (st .tuples))) p
+
+  pub plan-guest : (a d : ℕ) {t u : Spec.Thread} → t ≡ to th a → u ≡ under (st .net) d (th .site) r Spec.unbound → act (th .site) 16 (after st k t (Spec.settle (st .lines) u) (st .tuples)) ≡ acceptPlan st k th r a d true true
+  unfolding acceptPlan
+  plan-guest a d q e = ap₂ (λ (t u : Spec.Thread). act (th .site) 16 (after st k t (Spec.settle (st .lines) u) (st .tuples))) q e
+
+  -- accept, by its two tests
+  pub accept-unknown : (a d : ℕ) → among (st .arrivals) r ≡ false → stop 24 ≡ plan st k th m r (Process.Accept a d)
+  unfolding plan acceptPlan
+  accept-unknown a d e = rw e
+
+  pub accept-shut : (a d : ℕ) → among (st .arrivals) r ≡ true → door (st .net) (st .estimate) d (th .site) (tree (st .lines) r) ≡ false → stop 25 ≡ plan st k th m r (Process.Accept a d)
+  unfolding plan acceptPlan
+  accept-shut a d e q = rw (e, q)
+
+  pub accept-open : (a d : ℕ) → among (st .arrivals) r ≡ true → door (st .net) (st .estimate) d (th .site) (tree (st .lines) r) ≡ true → acceptPlan st k th r a d true true ≡ plan st k th m r (Process.Accept a d)
+  unfolding plan
+  accept-open a d e q = rw (e, q)
+
+  -- in and read
+  module _ (right a : ℕ) (g : Loc) (ss : List Slot) (rest : List (List ℕ)) (n : ℕ) (bs : List ℕ) (e : st .tuples ≡ rowsView n bs) where
+    pub get-none : n ≤ m → stop 22 ≡ getPlan st k th right a g ss rest (getElem? (st .tuples) m)
+    unfolding getPlan
+    get-none h = rw (e, row-none n bs m h)
+
+    pub get-other : m < n → agrees th g ss (rowAt bs m) ≡ false → stop 23 ≡ getPlan st k th right a g ss rest (getElem? (st .tuples) m)
+    unfolding getPlan
+    get-other h q = rw (e, row-some n bs m h, q)
+
+    pub get-some : m < n → agrees th g ss (rowAt bs m) ≡ true → act (value (th .site) (th .bindings) g) right (after st k (to (rebound th (bindAll (Value g ∷ ss) (rowAt bs m) (th .bindings))) a) [] rest) ≡ getPlan st k th right a g ss rest (getElem? (st .tuples) m)
+    unfolding getPlan to
+    get-some h q = rw (e, row-some n bs m h, q)
+
+-- the tuples of `in` and `read`: taken out or kept, never one more
+pub taken-view : (st : Spec.State) (k right change : ℕ) (xs ys : List (List ℕ)) {v w : ℕ} {t u : Spec.Thread} → v ≡ w → t ≡ u → eqb change 1 ≡ false → act v right (after st k t [] (cond (eqb change 1) xs ys)) ≡ act w right (after st k u [] ys)
+taken-view st k right change xs ys {v} {t = t} p q e =
+    ap (λ (b : Bool). act v right (after st k t [] (cond b xs ys))) e
+    ∙ ap₂ (λ (v : ℕ) (t : Spec.Thread). act v right (after st k t [] ys)) p q
+
+-- the arrivals' roots from place i on
+module _ (xs : List ℕ) (n r : ℕ) (long : n ≤ length xs) (i : ℕ) where
+  root-from : i < n → among (drop i (take n xs)) r ≡ either (eqb r (getD xs i 0)) (among (drop (suc i) (take n xs)) r)
+  unfolding among any
+  root-from h =
+      ap (any (eqb r)) (drop-cons (take n xs) i 0 (omega (arith, length-take-le n xs long)))
+      ∙ ap (λ (x : ℕ). either (eqb r x) (any (eqb r) (drop (suc i) (take n xs)))) (getD-take n xs i 0 h)
+
+  pub root-here : i < n → r ≡ getD xs i 0 → among (drop i (take n xs)) r ≡ true
+  unfolding either
+  root-here h e = root-from h ∙ ap (λ (b : Bool). either b (among (drop (suc i) (take n xs)) r)) (eq-eqb r (getD xs i 0) e)
+
+  pub root-later : i < n → (r ≡ getD xs i 0 → ⊥) → (j : ℕ) → suc i ≡ j → among (drop i (take n xs)) r ≡ among (drop j (take n xs)) r
+  unfolding either
+  root-later h e j s = root-from h ∙ ap (λ (b : Bool). either b (among (drop (suc i) (take n xs)) r)) (ne-eqb r (getD xs i 0) e) ∙ ap (λ (j : ℕ). among (drop j (take n xs)) r) s
+
+  pub root-none : n ≤ i → among (drop i (take n xs)) r ≡ false
+  unfolding among any
+  root-none h = ap (any (eqb r)) (drop-of-length-le (take n xs) {i = i} (omega (arith, length-take-le n xs long)))
+
+-- an arrival's root is a line
+pub root-low : {lines : List ℕ} {n : ℕ} {stand : List ℕ} {nstand : ℕ} {arrivals : List ℕ} {narrivals : ℕ} → Admits lines n stand nstand arrivals narrivals → (r : ℕ) → among (take narrivals arrivals) r ≡ true → r < n
+root-low w r t = w .arrivalsPresent r (among-in _ r t)
+
+pub root-form : {lines : List ℕ} {n : ℕ} {stand : List ℕ} {nstand : ℕ} {arrivals : List ℕ} {narrivals : ℕ} → Admits lines n stand nstand arrivals narrivals → (r : ℕ) → r < n → InForm n lines r
+root-form w r h = record { inOrder = w .inOrder; present = h }
+
+-- the two tests of accept, as the code makes them
+module _ {st : Spec.State} {lines : List ℕ} {n : ℕ} {boxes binds hold stand : List ℕ} {nstand : ℕ} {arrivals : List ℕ} {narrivals : ℕ} (w : Guests st lines n boxes binds hold stand nstand arrivals narrivals) where
+  pub guest-known : (r : ℕ) {b : Bool} → among (take narrivals arrivals) r ≡ b → among (st .arrivals) r ≡ b
+  guest-known r e = ap (λ (xs : List ℕ). among xs r) (w .arrivalsIs) ∙ e
+
+  pub guest-door : (d l r : ℕ) {p b : Bool} → ((N : Net) (E : Estimate) → N .boxes ≡ boxes → E .binds ≡ binds → E .hold ≡ hold → E .stand ≡ rowsView nstand stand → p ≡ door N E d l (tree (linesView n lines) r)) → p ≡ b → door (st .net) (st .estimate) d l (tree (st .lines) r) ≡ b
+  guest-door d l r h e =
+      ap (λ (ls : List Line). door (st .net) (st .estimate) d l (tree ls r)) (w .linesIs)
+      ∙ sym (h (st .net) (st .estimate) (w .boxesIs) (w .bindsIs) (w .holdIs) (w .standIs))
+      ∙ e
+
+-- of all tables, those of the door
+pub guests : {st : Spec.State} {lines : List ℕ} {n : ℕ} {boxes binds hold stand : List ℕ} {nstand : ℕ} {arrivals : List ℕ} {narrivals : ℕ} {tuples : List ℕ} {ntuples : ℕ} → Tables st lines n boxes binds hold stand nstand arrivals narrivals tuples ntuples → Guests st lines n boxes binds hold stand nstand arrivals narrivals
+guests w = record { linesIs = w .linesIs; boxesIs = w .boxesIs; bindsIs = w .bindsIs; holdIs = w .holdIs; standIs = w .standIs; arrivalsIs = w .arrivalsIs }
+
+module _ {lines : List ℕ} {n : ℕ} {stand : List ℕ} {nstand : ℕ} {arrivals : List ℕ} {narrivals : ℕ} {tuples : List ℕ} {ntuples : ℕ} {th : Thread} (p : Plannable lines n stand nstand arrivals narrivals tuples ntuples th) where
+  pub admits : Admits lines n stand nstand arrivals narrivals
+  admits = record { linesLong = p .linesLong; linesFew = p .linesFew; inOrder = p .inOrder; sized = p .sized; arrivalsLong = p .arrivalsLong; arrivalsFew = p .arrivalsFew; arrivalsPresent = p .arrivalsPresent }
+
+  -- the plan for the line that the thread stands on, from that for its action
+  pub plan-at : {st : Spec.State} {boxes binds hold : List ℕ} → Tables st lines n boxes binds hold stand nstand arrivals narrivals tuples ntuples → {r : Action} → Decoded lines (th .line) r → {x : Action} → r ≡ x → (k m s : ℕ) {X : Plan} → X ≡ plan st k (threadView th) m s (actionLine x (fieldBytes lines (th .line))) → X ≡ plan st k (threadView th) m s (lineAt (st .lines) (th .line))
+  plan-at {st} w {r} d {x} e k m s h =
+      h
+      ∙ sym (ap (plan st k (threadView th) m s)
+      (ap (λ (ls : List Line). lineAt ls (th .line)) (w .linesIs)
+      ∙ line-view n lines (th .line) (p .threadPresent)
+      ∙ sym (d .line)
+      ∙ ap (λ (x : Action). actionLine x (fieldBytes lines (th .line))) e))
+
+-- the numbers of a line are low
+pub low-of : {bs : List ℕ} {q : ℕ} {r x : Action} → Decoded bs q r → r ≡ x → LowAction x
+low-of d e = subst LowAction e (d .low)

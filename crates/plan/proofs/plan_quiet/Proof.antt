@@ -1,0 +1,12 @@
+use mathlib.Core.Path.{refl}
+use native.Mathlib.Omega.{arith}
+use Rattle.plan.specs.Move.{planView, stateAfter, tuplesAfter}
+use Rattle.plan.proofs.plan_quiet.Statement.{statement}
+use Rattle.plan.proofs.plan_quiet.Tie as tie
+
+returns : tie.Need-returns
+unfolding planView stateAfter tuplesAfter
+returns c = ((λ st k m. refl), (omega arith, omega arith))
+
+pub plan-quiet-spec : {M : Type 1} → statement M
+plan-quiet-spec = tie.close (tie.spec returns)

@@ -1,0 +1,75 @@
+-- What a step comes to, as the code has it, and the tables that it is found from.
+-- Assumes nothing.
+use mathlib.Core.Path.{_≡_}
+use mathlib.Core.Bool.{true, cond}
+use mathlib.Core.List.{List, [], _∷_, _++_}
+use Prim.Native.Nat.{ℕ, _<_, _≤_}
+use lib.Dec.{eqb}
+use lib.ListN.{length, take}
+use Rattle.sets.specs.Lists.{Elem, splice}
+use Rattle.klaim.specs.Process.{ordered}
+use Rattle.klaim.specs.State as Spec
+use Rattle.klaim.specs.Engine.{Plan, stop, quiet, act, after}
+use Rattle.rules.specs.Masks.{Sized}
+use Rattle.tables.specs.View.{linesView, rowsView, rowAt}
+use Rattle.threads.specs.View.{threadView}
+use Rattle.threads.specs.declared.Thread.{Thread}
+use Rattle.plan.specs.declared.Move.{Move}
+
+-- the tuples behind a step: one appended, tuple m taken out, or all as they are
+unfoldable pub tuplesAfter : List (List ℕ) → ℕ → Move → List (List ℕ)
+tuplesAfter ts m v = cond (eqb (v .change) 1) (ts ++ (rowAt (v .row) 0 ∷ [])) (cond (eqb (v .change) 2) (splice m [] ts) ts)
+
+-- the state behind a step
+unfoldable pub stateAfter : Spec.State → ℕ → ℕ → Move → Spec.State
+stateAfter st k m v = after st k (threadView (v .thread)) (cond (v .adds) (Spec.settle (st .lines) (threadView (v .added))) []) (tuplesAfter (st .tuples) m v)
+
+-- what a step comes to by the tests before 26
+unfoldable pub planView : Spec.State → ℕ → ℕ → Move → Plan
+planView st k m v =
+    cond (eqb (v .stop) 0)
+    (cond (v .silent) (quiet (stateAfter st k m v)) (act (v .target) (v .right) (stateAfter st k m v)))
+    (stop (v .stop))
+
+-- a state has these tables
+pub record Tables (st : Spec.State) (lines : List ℕ) (n : ℕ) (boxes binds hold stand : List ℕ) (nstand : ℕ) (arrivals : List ℕ) (narrivals : ℕ) (tuples : List ℕ) (ntuples : ℕ) : Type 0 where
+  pub linesIs : st .lines ≡ linesView n lines
+  pub boxesIs : st .net .boxes ≡ boxes
+  pub bindsIs : st .estimate .binds ≡ binds
+  pub holdIs : st .estimate .hold ≡ hold
+  pub standIs : st .estimate .stand ≡ rowsView nstand stand
+  pub arrivalsIs : st .arrivals ≡ take narrivals arrivals
+  pub tuplesIs : st .tuples ≡ rowsView ntuples tuples
+
+-- what the invariant gives of the tables, and of the thread that acts
+pub record Plannable (lines : List ℕ) (n : ℕ) (stand : List ℕ) (nstand : ℕ) (arrivals : List ℕ) (narrivals : ℕ) (tuples : List ℕ) (ntuples : ℕ) (th : Thread) : Type 0 where
+  pub linesLong : length lines ≡ 2560
+  pub linesFew : n ≤ 256
+  pub inOrder : ordered (linesView n lines) ≡ true
+  pub sized : Sized nstand stand
+  pub arrivalsLong : length arrivals ≡ 256
+  pub arrivalsFew : narrivals ≤ 256
+  pub arrivalsPresent : (r : ℕ) → Elem r (take narrivals arrivals) → r < n
+  pub tuplesLong : length tuples ≡ 1536
+  pub tuplesFew : ntuples ≤ 256
+  pub threadPresent : th .line < n
+  pub threadPlaced : th .site .0 < 32
+
+-- of the tables, those of the door
+pub record Guests (st : Spec.State) (lines : List ℕ) (n : ℕ) (boxes binds hold stand : List ℕ) (nstand : ℕ) (arrivals : List ℕ) (narrivals : ℕ) : Type 0 where
+  pub linesIs : st .lines ≡ linesView n lines
+  pub boxesIs : st .net .boxes ≡ boxes
+  pub bindsIs : st .estimate .binds ≡ binds
+  pub holdIs : st .estimate .hold ≡ hold
+  pub standIs : st .estimate .stand ≡ rowsView nstand stand
+  pub arrivalsIs : st .arrivals ≡ take narrivals arrivals
+
+-- what the door asks of them
+pub record Admits (lines : List ℕ) (n : ℕ) (stand : List ℕ) (nstand : ℕ) (arrivals : List ℕ) (narrivals : ℕ) : Type 0 where
+  pub linesLong : length lines ≡ 2560
+  pub linesFew : n ≤ 256
+  pub inOrder : ordered (linesView n lines) ≡ true
+  pub sized : Sized nstand stand
+  pub arrivalsLong : length arrivals ≡ 256
+  pub arrivalsFew : narrivals ≤ 256
+  pub arrivalsPresent : (r : ℕ) → Elem r (take narrivals arrivals) → r < n

@@ -1,0 +1,37 @@
+-- What the engine's state stands for, and what it says of the call behind it.
+-- Assumes nothing.
+use mathlib.Core.Bool.{cond}
+use mathlib.Core.List.{List}
+use Prim.Native.Nat.{ℕ}
+use lib.Dec.{eqb}
+use lib.ListN.{take}
+use Rattle.klaim.specs.Reader.{Answer, refused, gives}
+use Rattle.klaim.specs.State as Spec
+use Rattle.klaim.specs.Engine.{Event, brought, silent, performed, Result}
+use Rattle.tables.specs.View.{netView, estimateView, linesView, rowsView}
+use Rattle.threads.specs.View.{threadsView}
+use Rattle.state.specs.declared.Told.{Told}
+use Rattle.state.specs.declared.State.{State}
+
+-- the state of document 01; what was told is no part of it
+unfoldable pub stateView : State → Spec.State
+stateView st = record {
+  net = netView (st .net);
+  estimate = estimateView (st .estimate);
+  lines = linesView (st .nlines) (st .lines);
+  arrivals = take (st .narrivals) (st .arrivals);
+  threads = threadsView (st .nthreads) (st .threads);
+  tuples = rowsView (st .ntuples) (st .tuples);
+}
+
+-- what a call that was not refused did
+unfoldable pub eventView : Told → Event
+eventView t = cond (eqb (t .event) 0) (brought (t .site)) (cond (eqb (t .event) 1) silent (performed (t .site) (t .target) (t .right)))
+
+-- the answer of document 01: "A refusal returns its number, and its row"
+unfoldable pub answerView : Told → Answer Event
+answerView t = cond (eqb (t .number) 0) (gives (eventView t)) (refused (t .number) (t .row))
+
+-- the answer, and the state behind the call
+unfoldable pub resultView : State → Result
+resultView st = record { answer = answerView (st .told); state = stateView st }
