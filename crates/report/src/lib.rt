@@ -191,15 +191,15 @@ fn add_root(
 }
 
 // The report of a net and an estimate, given by their tables: byte 32 * subject + object.
-pub fn report(
-    homes: &[u8; 1024],
-    boxes: &[u8; 1056],
-    roots: &[u8; 128],
+pub fn report<'a>(
+    homes: &'a [u8; 1024],
+    boxes: &'a [u8; 1056],
+    roots: &'a [u8; 128],
     nroots: usize,
-    lines: &[u8; 2560],
+    lines: &'a [u8; 2560],
     nlines: usize,
-    binds: &[u32; 32],
-    hold: &[u8; 1024],
+    binds: &'a [u32; 32],
+    hold: &'a [u8; 1024],
 ) -> [u8; 1024]
     requires { ⌜ Rooted nlines (now lines) nroots (now roots) ⌝ }
     ensures { λ r. ⌜ ((N : Net) (E : Estimate) → Given N E (now (homes .entry)) (now (boxes .entry)) nlines (now (lines .entry)) (now (binds .entry)) → N .roots ≡ rootsView nroots (now (roots .entry)) → E .hold ≡ now (hold .entry) → r ≡ reportOf N E) ⌝ }

@@ -95,15 +95,15 @@ fn usable_at(
 }
 
 // For each site the rights of its home policy that are also usable, counted.
-pub fn used_counts(
-    homes: &[u8; 1024],
-    roots: &[u8; 128],
+pub fn used_counts<'a>(
+    homes: &'a [u8; 1024],
+    roots: &'a [u8; 128],
     m: usize,
-    lines: &[u8; 2560],
+    lines: &'a [u8; 2560],
     n: usize,
-    boxes: &[u8; 1056],
-    binds: &[u32; 32],
-    hold: &[u8; 1024],
+    boxes: &'a [u8; 1056],
+    binds: &'a [u32; 32],
+    hold: &'a [u8; 1024],
 ) -> [u32; 32]
     requires { ⌜ Rooted n (now lines) m (now roots) × (length (now homes) ≡ 1024) ⌝ }
     ensures { λ r. ⌜ ((w : World) → w .net .homes ≡ now (homes .entry) → Rights w (now (roots .entry)) m (now (lines .entry)) n (now (boxes .entry)) (now (binds .entry)) (now (hold .entry)) → r ≡ table 32 (usedCount w)) ⌝ }

@@ -111,17 +111,17 @@ fn decide(i: u16, count: u16, q: u16) -> Verdict
 }
 
 // T rows first, then Q lines, each in order.
-pub fn judge(
-    tuples: &[u8; 1536],
+pub fn judge<'a>(
+    tuples: &'a [u8; 1536],
     ntuples: usize,
-    roots: &[u8; 128],
+    roots: &'a [u8; 128],
     nroots: usize,
-    lines: &[u8; 2560],
+    lines: &'a [u8; 2560],
     nlines: usize,
-    boxes: &[u8; 1056],
-    binds: &[u32; 32],
-    hold: &[u8; 1024],
-    rows: &[u8; 1536],
+    boxes: &'a [u8; 1056],
+    binds: &'a [u32; 32],
+    hold: &'a [u8; 1024],
+    rows: &'a [u8; 1536],
     n: usize,
 ) -> Verdict
     requires { ⌜ Judgeable (now tuples) ntuples (now roots) nroots (now lines) nlines (now rows) n ⌝ }

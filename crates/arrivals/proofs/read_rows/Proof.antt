@@ -108,7 +108,7 @@ loop-again-2 : tie.Need-loop-again-2 Inv-loop μ-loop
 loop-again-2 c =
     let R = c .before .before .before .before .before .before .loop .inv in
     let l = c .before .before .before .before .before .loop-test .taken in
-    reading-bad _ _ _ _ _ _ (c .before .before .before .before .row-end .result + 1) _ _ R l (c .before .before .before .row-at .ensures .0) (c .before .before .row-number .ensures .0) (c .before .if1 .left) _ (c .turned-away .ensures .0) (c .turned-away .ensures .1) _ refl
+    reading-bad _ _ _ _ _ _ (c .before .before .before .before .row-end .result + 1) _ _ R l (c .before .before .before .row-at .ensures .0) (c .before .before .row-number .ensures .0) (c .before .if1 .left) _ (c .turned-away .ensures .0) (c .turned-away .ensures .1 .0) _ refl
 
 -- src/lib.rt:81:1
 returns : tie.Need-returns Inv-loop μ-loop
