@@ -204,7 +204,7 @@ fn plan_get(
 }
 
 // Whether r is one of the n roots of arrivals.
-fn is_arrival(arrivals: &[u8; 256], n: usize, r: usize) -> bool
+pub fn is_arrival(arrivals: &[u8; 256], n: usize, r: usize) -> bool
     requires { ⌜ (n ≤ 256) × (length (now arrivals) ≡ 256) ⌝ }
     ensures { λ b. ⌜ b ≡ among (take n (now (arrivals .entry))) r ⌝ }
 {

@@ -1,0 +1,260 @@
+-- Laws of the tests for a step as the code makes them.
+-- Assumes nothing.
+use mathlib.Core.Path.{_≡_, refl, sym, ap, ap₂, subst, _∙_}
+use mathlib.Core.Bool.{Bool, true, false, cond}
+use mathlib.Core.List.{List, [], _∷_}
+use mathlib.Core.Option.{none, some}
+use Prim.Native.Nat.{ℕ, zero, suc, _+_, _*_, _<_, _≤_}
+use native.Mathlib.Omega.{arith}
+use native.Mathlib.Nat.{add-zero}
+use native.Mathlib.Decide.{ℕ-discrete}
+use borrow.Author.Tests.{eq-eqb, ne-eqb, le-ltb}
+use lib.Dec.{eqb, ltb}
+use lib.ListN.{length, getD, getElem?, take}
+use lib.Seq.{length-take-le, getD-take}
+use Rattle.sets.specs.Lists.{Elem, first, later, _&_, either, any, keep, below, among, table}
+use Rattle.sets.proofs.Lists.{cond-at, any-i, all-turn, All-in, All-get, ltb-lt, lt-ltb}
+use Rattle.sets.proofs.Tables.{getD-table, length-table}
+use Rattle.klaim.specs.declared.Loc.{Loc}
+use Rattle.klaim.specs.Process.{Line, lineAt, tree}
+use Rattle.klaim.specs.Process as Process
+use Rattle.klaim.specs.Analysis.{least}
+use Rattle.klaim.specs.Report.{door}
+use Rattle.klaim.specs.Reader.{refused, gives}
+use Rattle.klaim.specs.State as Spec
+use Rattle.klaim.specs.State.{isNil}
+use Rattle.klaim.specs.Invariant.{Invariant, allBelow}
+use Rattle.klaim.specs.Engine.{doorAlone, runnable, ready}
+use Rattle.tables.specs.View.{netView, estimateView, lineByte, fieldBytes, locOf, lineBy, lineOf, linesView, actionLine, rowAt, rowsView, Decoded, InForm}
+use Rattle.tables.specs.declared.Action.{Action}
+use Rattle.tables.proofs.Lines.{line-view, length-view}
+use Rattle.threads.specs.declared.Thread.{Thread}
+use Rattle.threads.specs.View.{noThread, threadView, threadsView}
+use Rattle.threads.proofs.Laws.{threads-long, thread-some}
+use Rattle.tuples.proofs.Rows.{rows-long}
+use Rattle.state.specs.declared.State.{State}
+use Rattle.state.specs.View.{stateView}
+use Rattle.state.specs.Fits.{Fits}
+use Rattle.plan.specs.Move.{Tables, Plannable, Guests, Admits}
+use Rattle.plan.proofs.Laws.{guest-known}
+use Rattle.ready.specs.Runs.{standing, room, welcome, runs}
+use Rattle.ready.proofs.Runnable.{From, runnable-is, lowest-start, lowest-here, lowest-later, lowest-end}
+
+-- a line of kind 0 is `nil`, and no other
+abbrev Other : Line → Type 0
+Other x = isNil x ≡ false
+
+cond-nil : (t : Bool) (x : Line) → Other x → isNil (cond t Process.Nil x) ≡ t
+unfolding isNil
+cond-nil true x h = refl
+cond-nil false x h = h
+
+by-nil : (j a b k : ℕ) (g : Loc) (fs : List ℕ) → isNil (lineBy j a b k g fs) ≡ eqb j 0
+unfolding lineBy isNil
+by-nil j a b k g fs =
+    cond-nil (eqb j 0) _
+    (cond-at Other (eqb j 1) (λ t. refl) (λ t.
+    cond-at Other (eqb j 2) (λ t. refl) (λ t.
+    cond-at Other (eqb j 3) (λ t. refl) (λ t.
+    cond-at Other (eqb j 4) (λ t. refl) (λ t.
+    cond-at Other (eqb j 5) (λ t. refl) (λ t.
+    cond-at Other (eqb j 6) (λ t. refl) (λ t. refl)))))))
+
+module _ (n : ℕ) (bs : List ℕ) (q : ℕ) (h : q < n) where
+  nil-test : isNil (lineAt (linesView n bs) q) ≡ eqb (getD bs (10 * q) 0) 0
+  unfolding lineOf
+  nil-test =
+      ap isNil (line-view n bs q h)
+      ∙ by-nil (lineByte bs q 0) _ _ _ _ _
+      ∙ ap (λ (i : ℕ). eqb (getD bs i 0) 0) (add-zero (10 * q))
+
+  pub stands-none : getD bs (10 * q) 0 ≡ 0 → 0 ≡ standing (linesView n bs) q
+  unfolding standing
+  stands-none e = sym (ap (λ (b : Bool). cond b 0 1) (nil-test ∙ eq-eqb (getD bs (10 * q) 0) 0 e))
+
+  pub stands-one : (getD bs (10 * q) 0 ≡ 0 → ⊥) → 1 ≡ standing (linesView n bs) q
+  unfolding standing
+  stands-one e = sym (ap (λ (b : Bool). cond b 0 1) (nil-test ∙ ne-eqb (getD bs (10 * q) 0) 0 e))
+
+-- a search through a list: found at a place, or at none
+module _ {A : Type 0} (f : A → Bool) (d : A) where
+  place : (xs : List A) (i : ℕ) → i < length xs → Elem (getD xs i d) xs
+  place [] i h = absurd (omega arith)
+  place (x ∷ xs) zero h = first refl
+  place (x ∷ xs) (suc i) h = later (place xs i (omega arith))
+
+  any-here : (xs : List A) (i : ℕ) → i < length xs → f (getD xs i d) ≡ true → true ≡ any f xs
+  any-here xs i h t = sym (any-i f (place xs i h) t)
+
+  any-nowhere : (xs : List A) → ((i : ℕ) → i < length xs → f (getD xs i d) ≡ false) → false ≡ any f xs
+  unfolding any either
+  any-nowhere [] h = refl
+  any-nowhere (x ∷ xs) h =
+      any-nowhere xs (λ i k. h (suc i) (omega arith))
+      ∙ sym (ap (λ (b : Bool). either b (any f xs)) (h 0 (omega arith)))
+
+-- one tuple agrees, or none
+module _ (f : List ℕ → Bool) (n : ℕ) (bs : List ℕ) where
+  pub row-here : (i : ℕ) → i < n → f (rowAt bs i) ≡ true → true ≡ any f (rowsView n bs)
+  unfolding rowsView
+  row-here i h t = any-here f [] (table n (rowAt bs)) i (omega (arith, length-table n (rowAt bs))) (ap f (getD-table n (rowAt bs) i [] h) ∙ t)
+
+  pub row-nowhere : ((i : ℕ) → i < n → f (rowAt bs i) ≡ false) → false ≡ any f (rowsView n bs)
+  unfolding rowsView
+  row-nowhere h =
+      any-nowhere f [] (table n (rowAt bs)) (λ i k. let l : i < n = omega (arith, length-table n (rowAt bs)) in ap f (getD-table n (rowAt bs) i [] l) ∙ h i l)
+
+-- a test that failed below i fails below i + 1
+pub none-more : {P : ℕ → Bool} {i : ℕ} → ((j : ℕ) → j < i → P j ≡ false) → P i ≡ false → (k : ℕ) → suc i ≡ k → (j : ℕ) → j < k → P j ≡ false
+none-more {P} {i} h e k s j l = go (ℕ-discrete j i)
+  where
+    go : Dec (j ≡ i) → P j ≡ false
+    go (yes p) = ap P p ∙ e
+    go (no p) = h j (omega arith)
+
+-- one arrival is welcome, or none
+module _ {st : Spec.State} {lines : List ℕ} {n : ℕ} {boxes binds hold stand : List ℕ} {nstand : ℕ} {arrivals : List ℕ} {narrivals : ℕ} (w : Guests st lines n boxes binds hold stand nstand arrivals narrivals) (th : Spec.Thread) {count : ℕ} (c : length (st .threads) ≡ count) {l : ℕ} (s : th .site ≡ l) (long : narrivals ≤ length arrivals) (a d : ℕ) where
+  welcome-is : (r : ℕ) → welcome st th a d r ≡ (door (st .net) (st .estimate) d l (tree (linesView n lines) r) & room count (linesView n lines) a r)
+  unfolding welcome
+  welcome-is r = rw (w .linesIs, c, s)
+
+  pub guest-here : (i : ℕ) → i < narrivals → {b : Bool} → b ≡ (door (st .net) (st .estimate) d l (tree (linesView n lines) (getD arrivals i 0)) & room count (linesView n lines) a (getD arrivals i 0)) → b ≡ true → true ≡ any (welcome st th a d) (st .arrivals)
+  guest-here i h e t =
+      any-here (welcome st th a d) 0 (take narrivals arrivals) i (omega (arith, length-take-le narrivals arrivals long)) (ap (welcome st th a d) (getD-take narrivals arrivals i 0 h) ∙ welcome-is (getD arrivals i 0) ∙ sym e ∙ t)
+      ∙ ap (any (welcome st th a d)) (sym (w .arrivalsIs))
+
+  pub guest-nowhere : ((i : ℕ) → i < narrivals → (door (st .net) (st .estimate) d l (tree (linesView n lines) (getD arrivals i 0)) & room count (linesView n lines) a (getD arrivals i 0)) ≡ false) → false ≡ any (welcome st th a d) (st .arrivals)
+  guest-nowhere h =
+      any-nowhere (welcome st th a d) 0 (take narrivals arrivals) (λ i k. let m : i < narrivals = omega (arith, length-take-le narrivals arrivals long) in ap (welcome st th a d) (getD-take narrivals arrivals i 0 m) ∙ welcome-is (getD arrivals i 0) ∙ h i m)
+      ∙ ap (any (welcome st th a d)) (sym (w .arrivalsIs))
+
+-- the two tests of one arrival
+pub open-room : {p o : Bool} {x : Bool} → o ≡ x → o ≡ true → (z : Bool) → p ≡ z → p ≡ (z & x)
+unfolding _&_
+open-room e t true q = q ∙ sym (sym e ∙ t)
+open-room e t false q = q
+
+pub no-room : {o x : Bool} → o ≡ x → o ≡ false → (z : Bool) → false ≡ (z & x)
+unfolding _&_
+no-room e t true = sym (sym e ∙ t)
+no-room e t false = refl
+
+-- the root of arrival i is a line
+pub root-present : {lines : List ℕ} {n : ℕ} {stand : List ℕ} {nstand : ℕ} {arrivals : List ℕ} {narrivals : ℕ} → Admits lines n stand nstand arrivals narrivals → (i : ℕ) → i < narrivals → narrivals ≤ length arrivals → getD arrivals i 0 < n
+root-present {n = n} {arrivals = arrivals} {narrivals = narrivals} w i h long =
+    subst (λ (r : ℕ). r < n) (getD-take narrivals arrivals i 0 h)
+    (w .arrivalsPresent (getD (take narrivals arrivals) i 0) (place (λ r. true) 0 (take narrivals arrivals) i (omega (arith, length-take-le narrivals arrivals long))))
+
+-- what stands in the tables, said of the state
+module _ {st : Spec.State} {lines : List ℕ} {n : ℕ} {boxes binds hold stand : List ℕ} {nstand : ℕ} {arrivals : List ℕ} {narrivals : ℕ} {tuples : List ℕ} {ntuples : ℕ} (w : Tables st lines n boxes binds hold stand nstand arrivals narrivals tuples ntuples) where
+  pub room-of : {count : ℕ} → length (st .threads) ≡ count → (a b : ℕ) {r : Bool} → r ≡ room count (linesView n lines) a b → r ≡ room (length (st .threads)) (st .lines) a b
+  room-of c a b e = e ∙ sym (ap₂ (λ (k : ℕ) (ls : List Line). room k ls a b) c (w .linesIs))
+
+  pub tuples-of : (f : List ℕ → Bool) {r : Bool} → r ≡ any f (rowsView ntuples tuples) → r ≡ any f (st .tuples)
+  tuples-of f e = e ∙ ap (any f) (sym (w .tuplesIs))
+
+  pub more-of : ltb ntuples 256 ≡ ltb (length (st .tuples)) 256
+  more-of = ap (λ (k : ℕ). ltb k 256) (sym (ap length (w .tuplesIs) ∙ rows-long ntuples tuples))
+
+module _ {lines : List ℕ} {n : ℕ} {stand : List ℕ} {nstand : ℕ} {arrivals : List ℕ} {narrivals : ℕ} {tuples : List ℕ} {ntuples : ℕ} {th : Thread} (p : Plannable lines n stand nstand arrivals narrivals tuples ntuples th) where
+  pub thread-form : InForm n lines (th .line)
+  thread-form = record { inOrder = p .inOrder; present = p .threadPresent }
+
+  -- the test for the line that the thread stands on, from that for its action
+  pub runs-at : {st : Spec.State} {boxes binds hold : List ℕ} → Tables st lines n boxes binds hold stand nstand arrivals narrivals tuples ntuples → {r : Action} → Decoded lines (th .line) r → {x : Action} → r ≡ x → {b : Bool} → b ≡ runs st (threadView th) (actionLine x (fieldBytes lines (th .line))) → b ≡ runs st (threadView th) (lineAt (st .lines) (th .line))
+  runs-at {st} w {r} d {x} e h =
+      h
+      ∙ sym (ap (runs st (threadView th))
+      (ap (λ (ls : List Line). lineAt ls (th .line)) (w .linesIs)
+      ∙ line-view n lines (th .line) (p .threadPresent)
+      ∙ sym (d .line)
+      ∙ ap (λ (x : Action). actionLine x (fieldBytes lines (th .line))) e))
+
+-- the lowest thread that can make a step, thread by thread
+module _ (st : Spec.State) (items : List Thread) (count : ℕ) (e : st .threads ≡ threadsView count items) (long : count ≤ length items) where
+  pub ready-start : ready st ≡ least (keep (runnable st) (From count 0))
+  unfolding ready
+  ready-start =
+      ap (λ (n : ℕ). least (keep (runnable st) (below n))) (ap length e ∙ threads-long count items long)
+      ∙ lowest-start (runnable st) count
+
+  pub ready-none : (k : ℕ) → ready st ≡ least (keep (runnable st) (From count k)) → count ≤ k → none ≡ ready st
+  ready-none k q h = sym (q ∙ lowest-end (runnable st) count k h)
+
+  module _ (inv : Invariant st) (k : ℕ) (h : k < count) (th : Thread) (t : th ≡ getD items k noThread) {b : Bool} (r : b ≡ runs st (threadView th) (lineAt (st .lines) (th .line))) (q : ready st ≡ least (keep (runnable st) (From count k))) where
+    here-runs : runnable st k ≡ b
+    here-runs = runnable-is st inv k (threadView th) (ap (λ (xs : List Spec.Thread). getElem? xs k) e ∙ thread-some count items k h long ∙ ap (λ (x : Thread). some (threadView x)) (sym t)) ∙ sym r
+
+    pub ready-here : b ≡ true → some k ≡ ready st
+    ready-here y = sym (q ∙ lowest-here (runnable st) count k h (here-runs ∙ y))
+
+    pub ready-later : b ≡ false → (j : ℕ) → suc k ≡ j → ready st ≡ least (keep (runnable st) (From count j))
+    ready-later y j s = q ∙ lowest-later (runnable st) count k h (here-runs ∙ y) j s
+
+-- the tables of a state by value, and what its invariant gives of them
+pub tables : (st : State) → Tables (stateView st) (st .lines) (st .nlines) (st .net .boxes) (st .estimate .binds) (st .estimate .hold) (st .estimate .stand) (st .estimate .nstand) (st .arrivals) (st .narrivals) (st .tuples) (st .ntuples)
+unfolding stateView netView estimateView
+tables st = record { linesIs = refl; boxesIs = refl; bindsIs = refl; holdIs = refl; standIs = refl; arrivalsIs = refl; tuplesIs = refl }
+
+module _ {st : State} (f : Fits st) (long-lines : length (st .lines) ≡ 2560) (long-stand : length (st .estimate .stand) ≡ 1536) (long-arrivals : length (st .arrivals) ≡ 256) where
+  pub fits-guests : Admits (st .lines) (st .nlines) (st .estimate .stand) (st .estimate .nstand) (st .arrivals) (st .narrivals)
+  unfolding stateView netView estimateView allBelow
+  fits-guests =
+      let v = f .invariant in
+      let n : length (linesView (st .nlines) (st .lines)) ≡ st .nlines = length-view (st .nlines) (st .lines) in
+      record {
+        linesLong = long-lines;
+        linesFew = omega (arith, v .lines-few, n);
+        inOrder = v .lines-ordered;
+        sized = record {
+          few = omega (arith, v .stand-few, rows-long (st .estimate .nstand) (st .estimate .stand));
+          long = long-stand;
+          alone = v .stand-distinct;
+          low = all-turn (allBelow (st .net .size)) (allBelow 32) _ (λ t h. all-turn (λ x. ltb x (st .net .size)) (λ x. ltb x 32) t (λ x l. lt-ltb x 32 (omega (arith, ltb-lt x (st .net .size) l, v .sites-few))) h) (v .stand-fit);
+        };
+        arrivalsLong = long-arrivals;
+        arrivalsFew = omega (arith, v .lines-few, n, f .arrivals-few);
+        arrivalsPresent = λ r i. omega (arith, All-in (v .arrivals-ok) i .present, n);
+      }
+
+  pub fits-thread : length (st .tuples) ≡ 1536 → length (st .threads) ≡ 64 → (k : ℕ) → k < st .nthreads → Plannable (st .lines) (st .nlines) (st .estimate .stand) (st .estimate .nstand) (st .arrivals) (st .narrivals) (st .tuples) (st .ntuples) (getD (st .threads) k noThread)
+  unfolding stateView netView
+  fits-thread long-tuples long-threads k h =
+      let v = f .invariant in
+      let g = fits-guests in
+      let t = All-get k (v .threads-ok) (thread-some (st .nthreads) (st .threads) k h (omega (arith, f .threads-few))) in
+      record {
+        linesLong = g .linesLong;
+        linesFew = g .linesFew;
+        inOrder = g .inOrder;
+        sized = g .sized;
+        arrivalsLong = g .arrivalsLong;
+        arrivalsFew = g .arrivalsFew;
+        arrivalsPresent = g .arrivalsPresent;
+        tuplesLong = long-tuples;
+        tuplesFew = omega (arith, v .tuples-few, rows-long (st .ntuples) (st .tuples));
+        threadPresent = omega (arith, t .present, length-view (st .nlines) (st .lines));
+        threadPlaced = omega (arith, t .placed, v .sites-few);
+      }
+
+pub fits-size : {st : State} → Fits st → st .net .size ≤ 32
+unfolding stateView netView
+fits-size f = f .invariant .sites-few
+
+-- the door called by itself, test by test
+module _ {st : Spec.State} {lines : List ℕ} {n : ℕ} {boxes binds hold stand : List ℕ} {nstand : ℕ} {arrivals : List ℕ} {narrivals : ℕ} (w : Guests st lines n boxes binds hold stand nstand arrivals narrivals) (r l d : ℕ) {b : Bool} (e : b ≡ among (take narrivals arrivals) r) where
+  pub door-unknown : b ≡ false → refused 24 0 ≡ doorAlone st r l d
+  unfolding doorAlone
+  door-unknown t = rw (guest-known w r (sym e ∙ t))
+
+  pub door-far : b ≡ true → st .net .size ≤ l → refused 4 0 ≡ doorAlone st r l d
+  unfolding doorAlone
+  door-far t h = rw (guest-known w r (sym e ∙ t), le-ltb l (st .net .size) h)
+
+  pub door-other : b ≡ true → l < st .net .size → 32 ≤ d → refused 2 0 ≡ doorAlone st r l d
+  unfolding doorAlone
+  door-other t h k = rw (guest-known w r (sym e ∙ t), lt-ltb l (st .net .size) h, le-ltb d 32 k)
+
+  pub door-gives : b ≡ true → l < st .net .size → d < 32 → {p : Bool} → door (st .net) (st .estimate) d l (tree (st .lines) r) ≡ p → gives p ≡ doorAlone st r l d
+  unfolding doorAlone
+  door-gives t h k q = rw (guest-known w r (sym e ∙ t), lt-ltb l (st .net .size) h, lt-ltb d 32 k, q)

@@ -1,0 +1,2 @@
+pub mod Runnable
+pub mod Laws
