@@ -169,12 +169,18 @@ stepped-yes guarded st k m r next f p v a few less = record {
   };
 }
 
+flip : {room b : Bool} → room ≡ b → _≡_ {A = ℕ} (cond (not room) 27 0) (cond b 0 27)
+flip {room = true} {b = true} q = refl
+flip {room = true} {b = false} q = absurd (false≢true (sym q))
+flip {room = false} {b = true} q = absurd (false≢true q)
+flip {room = false} {b = false} q = refl
+
 -- a step by what the code finds: the plan, the sizes, the right, the number
 module _ (guarded : Bool) (st : State) (k m r : ℕ) (f : Fits st) (w : Long st) (h : k < st .nthreads) (v : Move) (s : Sizes) where
   abbrev th : Spec.Thread
   th = threadView (getD (st .threads) k noThread)
 
-  pub step-ends : Measured (linesView (st .nlines) (st .lines)) (st .nthreads) (st .ntuples) v s → (v .change ≡ 2 → m < st .ntuples) → planView (stateView st) k m v ≡ plan (stateView st) k th m r (lineAt (stateView st .lines) (th .line)) → {allowed : Bool} → ((N : Net) → N .homes ≡ st .net .homes → allowed ≡ permits N th (v .target) (v .right)) → {lacks room : Bool} {number : ℕ} → lacks ≡ not (either (v .silent) (either (not guarded) allowed)) → room ≡ (leb (s .threads) 64 & leb (s .tuples) 256) → number ≡ cond (eqb (v .stop) 0) (cond lacks 26 (cond room 0 27)) (v .stop) → step guarded (stateView st) k m r ≡ Ends guarded (stateView st) th (v .target) (v .right) (stateAfter (stateView st) k m v) (v .silent) number
+  pub step-ends : Measured (linesView (st .nlines) (st .lines)) (st .nthreads) (st .ntuples) v s → (v .change ≡ 2 → m < st .ntuples) → planView (stateView st) k m v ≡ plan (stateView st) k th m r (lineAt (stateView st .lines) (th .line)) → {allowed : Bool} → ((N : Net) → N .homes ≡ st .net .homes → allowed ≡ permits N th (v .target) (v .right)) → {lacks room : Bool} {number : ℕ} → lacks ≡ not (either (v .silent) (either (not guarded) allowed)) → room ≡ (leb (s .threads) 64 & leb (s .tuples) 256) → number ≡ cond (eqb (v .stop) 0) (cond lacks 26 (cond (not room) 27 0)) (v .stop) → step guarded (stateView st) k m r ≡ Ends guarded (stateView st) th (v .target) (v .right) (stateAfter (stateView st) k m v) (v .silent) number
   unfolding planView
   step-ends o taken p a l q e =
       step-plan guarded (stateView st) k m r th (thread-here st f w k h) p
@@ -182,7 +188,7 @@ module _ (guarded : Bool) (st : State) (k m r : ℕ) (f : Fits st) (w : Long st)
       (threads-count st k m v s o h (omega (arith, w .threads, f .threads-few)) taken)
       (tuples-count st k m v s o h (omega (arith, w .threads, f .threads-few)) taken)
       (a (stateView st .net) (homes-is st))
-      (e ∙ ap₂ (λ (x y : Bool). cond (eqb (v .stop) 0) (cond x 26 (cond y 0 27)) (v .stop)) l q)
+      (e ∙ ap₂ (λ (x : Bool) (y : ℕ). cond (eqb (v .stop) 0) (cond x 26 y) (v .stop)) l (flip q))
 
   -- the two ends
   pub step-no : (number : ℕ) → step guarded (stateView st) k m r ≡ Ends guarded (stateView st) th (v .target) (v .right) (stateAfter (stateView st) k m v) (v .silent) number → (number ≡ 0 → ⊥) → step guarded (stateView st) k m r ≡ Engine.refuse number 0 (stateView st)
@@ -192,5 +198,5 @@ module _ (guarded : Bool) (st : State) (k m r : ℕ) (f : Fits st) (w : Long st)
   step-yes number e z = e ∙ rw z
 
 -- room, by the number
-pub room-is : (v : Move) (s : Sizes) (lacks : Bool) {room : Bool} {number : ℕ} → room ≡ (leb (s .threads) 64 & leb (s .tuples) 256) → number ≡ cond (eqb (v .stop) 0) (cond lacks 26 (cond room 0 27)) (v .stop) → number ≡ 0 → (s .threads ≤ 64) × (s .tuples ≤ 256)
-room-is v s lacks q e z = room-of (v .stop) (s .threads) (s .tuples) lacks (ap (λ (y : Bool). cond (eqb (v .stop) 0) (cond lacks 26 (cond y 0 27)) (v .stop)) (sym q) ∙ sym e ∙ z)
+pub room-is : (v : Move) (s : Sizes) (lacks : Bool) {room : Bool} {number : ℕ} → room ≡ (leb (s .threads) 64 & leb (s .tuples) 256) → number ≡ cond (eqb (v .stop) 0) (cond lacks 26 (cond (not room) 27 0)) (v .stop) → number ≡ 0 → (s .threads ≤ 64) × (s .tuples ≤ 256)
+room-is v s lacks q e z = room-of (v .stop) (s .threads) (s .tuples) lacks (ap (λ (y : ℕ). cond (eqb (v .stop) 0) (cond lacks 26 y) (v .stop)) (sym (flip q)) ∙ sym e ∙ z)

@@ -146,8 +146,8 @@ fn room(threads: usize, tuples: usize) -> bool
 }
 
 // The number that refuses a move, or 0: first what stopped the plan, then 26, then 27.
-fn refusal(stop: u8, lacks: bool, room: bool) -> u8
-    ensures { λ r. ⌜ r ≡ cond (eqb stop 0) (cond lacks 26 (cond room 0 27)) stop ⌝ }
+fn refusal(stop: u8, lacks: bool, full: bool) -> u8
+    ensures { λ r. ⌜ r ≡ cond (eqb stop 0) (cond lacks 26 (cond full 27 0)) stop ⌝ }
 {
     if stop != 0 {
         return stop;
@@ -155,10 +155,10 @@ fn refusal(stop: u8, lacks: bool, room: bool) -> u8
     if lacks {
         return 26;
     }
-    if room {
-        return 0;
+    if full {
+        return 27;
     }
-    27
+    0
 }
 
 // The threads with thread k come to `nil`, or become th.
@@ -266,7 +266,8 @@ fn advance(state: State, guarded: bool, k: usize, m: usize, r: usize) -> State
     let s = measure(&state.lines, state.nlines, state.nthreads, state.ntuples, v);
     let may = allowed(&state.net.homes, th, v.target, v.right);
     let short = lacks(guarded, v.silent, may);
-    let number = refusal(v.stop, short, room(s.threads, s.tuples));
+    let fits = room(s.threads, s.tuples);
+    let number = refusal(v.stop, short, !fits);
     if number != 0 {
         return state::refuse(state, number, 0);
     }
