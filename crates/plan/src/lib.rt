@@ -10,7 +10,6 @@ ghost use Rattle.klaim.specs.Process as Process;
 ghost use Rattle.klaim.specs.Process.{lineAt};
 ghost use Rattle.klaim.specs.State as Spec;
 ghost use Rattle.klaim.specs.Engine.{plan as planOf, stop as stopped, quiet, act, after, getPlan, acceptPlan, value, bindAll, to as toLine};
-ghost use Rattle.rules.specs.Masks.{Sized};
 ghost use Rattle.tables.specs.View.{LowLoc, locOf, slotOf, fieldBytes, rowAt, rowsView};
 ghost use Rattle.threads.specs.View.{threadView, rebound};
 ghost use Rattle.plan.specs.Move.{planView, Tables, Plannable, Guests, Admits};
@@ -203,6 +202,53 @@ fn plan_get(
     plan_stop(23, th)
 }
 
+// in: the tuple is taken out.
+fn plan_in(
+    lines: &[u8; 2560],
+    tuples: &[u8; 1536],
+    n: usize,
+    m: usize,
+    th: Thread,
+    a: u8,
+    target: Loc,
+    count: u8,
+) -> Move
+    requires { ⌜ (n ≤ 256) × (count ≤ 4) × (length (now lines) ≡ 2560) × (length (now tuples) ≡ 1536) × LowLoc target ⌝ }
+    ensures { λ v. ⌜ ((st : Spec.State) (k r : ℕ) → st .tuples ≡ rowsView n (now (tuples .entry)) → planView st k m v ≡ planOf st k (threadView th) m r (Process.In a target (map slotOf (take count (fieldBytes (now (lines .entry)) (th .line)))))) ⌝ }
+    ensures { λ v. ⌜ (0 < v .right) × (v .change ≡ 2 → m < n) ⌝ }
+{
+    plan_get(lines, tuples, n, m, th, a, target, count, UseMap::IN, TAKEN)
+}
+
+// read: the tuple stays.
+fn plan_read(
+    lines: &[u8; 2560],
+    tuples: &[u8; 1536],
+    n: usize,
+    m: usize,
+    th: Thread,
+    a: u8,
+    target: Loc,
+    count: u8,
+) -> Move
+    requires { ⌜ (n ≤ 256) × (count ≤ 4) × (length (now lines) ≡ 2560) × (length (now tuples) ≡ 1536) × LowLoc target ⌝ }
+    ensures { λ v. ⌜ ((st : Spec.State) (k r : ℕ) → st .tuples ≡ rowsView n (now (tuples .entry)) → planView st k m v ≡ planOf st k (threadView th) m r (Process.Read a target (map slotOf (take count (fieldBytes (now (lines .entry)) (th .line)))))) ⌝ }
+    ensures { λ v. ⌜ (0 < v .right) × (v .change ≡ 2 → m < n) ⌝ }
+{
+    plan_get(
+        lines,
+        tuples,
+        n,
+        m,
+        th,
+        a,
+        target,
+        count,
+        UseMap::READ,
+        KEPT,
+    )
+}
+
 // Whether r is one of the n roots of arrivals.
 pub fn is_arrival(arrivals: &[u8; 256], n: usize, r: usize) -> bool
     requires { ⌜ (n ≤ 256) × (length (now arrivals) ≡ 256) ⌝ }
@@ -310,34 +356,12 @@ pub fn plan<'a>(
             next,
             target,
             count,
-        } => plan_get(
-            lines,
-            tuples,
-            ntuples,
-            m,
-            th,
-            next,
-            target,
-            count,
-            UseMap::IN,
-            TAKEN,
-        ),
+        } => plan_in(lines, tuples, ntuples, m, th, next, target, count),
         Action::Read {
             next,
             target,
             count,
-        } => plan_get(
-            lines,
-            tuples,
-            ntuples,
-            m,
-            th,
-            next,
-            target,
-            count,
-            UseMap::READ,
-            KEPT,
-        ),
+        } => plan_read(lines, tuples, ntuples, m, th, next, target, count),
         Action::Eval {
             next,
             target,

@@ -4,6 +4,7 @@ ghost use Prim.Native.Nat.{_<_};
 ghost use Rattle.klaim.specs.Reader.{refused, gives};
 ghost use Rattle.klaim.specs.Engine.{brought, silent, performed};
 ghost use Rattle.state.specs.View.{stateView, answerView};
+ghost use Rattle.state.specs.Fits.{Fits};
 use tables::Estimate;
 use tables::Net;
 use threads::Thread;
@@ -43,7 +44,7 @@ pub struct State {
 // The state with the refusal that a call came to.
 pub fn refuse(state: State, number: u8, row: usize) -> State
     requires { ⌜ 0 < number ⌝ }
-    ensures { λ r. ⌜ stateView r ≡ stateView state ⌝ }
+    ensures { λ r. ⌜ (stateView r ≡ stateView state) × (Fits state → Fits r) ⌝ }
     ensures { λ r. ⌜ answerView (r .told) ≡ refused number row ⌝ }
 {
     let mut next = state;
@@ -54,7 +55,7 @@ pub fn refuse(state: State, number: u8, row: usize) -> State
 
 // The state with what a call did that was not refused.
 pub fn tell(state: State, event: u8, site: u8, target: u8, right: u8) -> State
-    ensures { λ r. ⌜ stateView r ≡ stateView state ⌝ }
+    ensures { λ r. ⌜ (stateView r ≡ stateView state) × (Fits state → Fits r) ⌝ }
     ensures { λ r. ⌜ (event ≡ 0 → answerView (r .told) ≡ gives (brought site)) ⌝ }
     ensures { λ r. ⌜ (event ≡ 1 → answerView (r .told) ≡ gives silent) ⌝ }
     ensures { λ r. ⌜ (event ≡ 2 → answerView (r .told) ≡ gives (performed site target right)) ⌝ }

@@ -1,4 +1,3 @@
-use mathlib.Core.Path.{refl}
 use native.Mathlib.Omega.{arith}
 use borrow.Author.Needs.{needs}
 use Rattle.klaim.specs.Engine.{plan}
@@ -40,20 +39,20 @@ plan-out-requires c κs =
 enum-known-next-4 : tie.Need-enum-known-next-4
 enum-known-next-4 c = search needs
 
-plan-get-requires : tie.Need-plan-get-requires
-plan-get-requires c κs =
+plan-in-requires : tie.Need-plan-in-requires
+plan-in-requires c κs =
     let s = c .before .before .before .before in
     let low = low-of (c .before .before .before .action-at .ensures) (c .before .next4 .given .1) in
-    (s .pre .tuplesFew, low .1, s .pre .linesLong, s .pre .tuplesLong, low .0, refl, omega arith)
+    (s .pre .tuplesFew, low .1, s .pre .linesLong, s .pre .tuplesLong, low .0)
 
 enum-known-next-5 : tie.Need-enum-known-next-5
 enum-known-next-5 c = search needs
 
-plan-get-requires-2 : tie.Need-plan-get-requires-2
-plan-get-requires-2 c κs =
+plan-read-requires : tie.Need-plan-read-requires
+plan-read-requires c κs =
     let s = c .before .before .before .before in
     let low = low-of (c .before .before .before .action-at .ensures) (c .before .next5 .given .1) in
-    (s .pre .tuplesFew, low .1, s .pre .linesLong, s .pre .tuplesLong, low .0, refl, omega arith)
+    (s .pre .tuplesFew, low .1, s .pre .linesLong, s .pre .tuplesLong, low .0)
 
 enum-known-next-6 : tie.Need-enum-known-next-6
 enum-known-next-6 c = search needs
@@ -106,14 +105,14 @@ unfolding plan actionLine
 returns-5 c =
     let s = c .before .before .before .before .before in
     let ar = s .args in
-    ((λ st k w. plan-at (s .pre) w (c .before .before .before .before .action-at .ensures) (c .before .before .next4 .given .1) k (ar .m) (ar .r) (c .plan-get .ensures .0 st k (w .tuplesIs))), (c .plan-get .ensures .1 .0, c .plan-get .ensures .1 .1))
+    ((λ st k w. plan-at (s .pre) w (c .before .before .before .before .action-at .ensures) (c .before .before .next4 .given .1) k (ar .m) (ar .r) (c .plan-in .ensures .0 st k (ar .r) (w .tuplesIs))), (c .plan-in .ensures .1 .0, c .plan-in .ensures .1 .1))
 
 returns-6 : tie.Need-returns-6
 unfolding plan actionLine
 returns-6 c =
     let s = c .before .before .before .before .before in
     let ar = s .args in
-    ((λ st k w. plan-at (s .pre) w (c .before .before .before .before .action-at .ensures) (c .before .before .next5 .given .1) k (ar .m) (ar .r) (c .plan-get2 .ensures .0 st k (w .tuplesIs))), (c .plan-get2 .ensures .1 .0, c .plan-get2 .ensures .1 .1))
+    ((λ st k w. plan-at (s .pre) w (c .before .before .before .before .action-at .ensures) (c .before .before .next5 .given .1) k (ar .m) (ar .r) (c .plan-read .ensures .0 st k (ar .r) (w .tuplesIs))), (c .plan-read .ensures .1 .0, c .plan-read .ensures .1 .1))
 
 returns-7 : tie.Need-returns-7
 unfolding plan actionLine
@@ -143,9 +142,9 @@ plan-spec =
     enum-known-next-3
     plan-out-requires
     enum-known-next-4
-    plan-get-requires
+    plan-in-requires
     enum-known-next-5
-    plan-get-requires-2
+    plan-read-requires
     enum-known-next-6
     plan-eval-requires
     enum-known-next-7

@@ -1,0 +1,23 @@
+-- What check answers, and what it goes by.
+-- Assumes nothing.
+use Prim.Native.Nat.{ℕ}
+use Rattle.klaim.specs.Reader as Reader
+use Rattle.klaim.specs.Reader.{refused, gives}
+use Rattle.klaim.specs.Analysis.{Verdict, accepted, brokenT, brokenQ}
+use Rattle.klaim.proofs.Reader.{NetOk, EstimateOk}
+use Rattle.worlds.specs.declared.WorldRead.{WorldRead}
+use Rattle.worlds.specs.World.{worldView}
+use Rattle.checker.specs.declared.Answer.{Answer}
+use Rattle.checker.specs.declared.Answer.the-variants.{Accepted, BrokenTuple, BrokenLine, Refused}
+
+-- the answer of document 01: "accepted", "broken rule at a T row or Q line, counted from 0", or a number and a row
+unfoldable pub answerView : Answer → Reader.Answer Verdict
+answerView Accepted = gives accepted
+answerView (BrokenTuple i) = gives (brokenT i)
+answerView (BrokenLine q) = gives (brokenQ q)
+answerView (Refused n row) = refused n row
+
+-- what the reader ascertains of a net and an estimate
+pub record Sound (w : WorldRead) : Type 0 where
+  pub net : NetOk (worldView w .net)
+  pub estimate : EstimateOk (worldView w .net .size) (worldView w .estimate)
