@@ -9,7 +9,7 @@ use native.Mathlib.Nat.{add-zero}
 use native.Mathlib.Numerals.{add-one}
 use borrow.Author.Tests.{eq-eqb, ne-eqb}
 use lib.Dec.{eqb}
-use lib.ListN.{length, getD}
+use lib.ListN.{getD}
 use Rattle.sets.specs.Lists.{concat, _∪_, table, tableFrom}
 use Rattle.sets.proofs.Lists.{cond-at, All-in}
 use Rattle.sets.proofs.Tables.{length-table, table-in, table-snoc}
@@ -17,7 +17,7 @@ use Rattle.klaim.specs.declared.Loc.{Loc}
 use Rattle.klaim.specs.declared.Site.{Site}
 use Rattle.klaim.specs.Process.{Line, lineAt}
 use Rattle.klaim.specs.Process as Process
-use Rattle.klaim.specs.Net.{Net, Root}
+use Rattle.klaim.specs.Net.{Net}
 use Rattle.klaim.specs.Reader.{Answer, refused, gives, andThen, World, readBoth}
 use Rattle.klaim.specs.State as Spec
 use Rattle.klaim.specs.State.{isNil, settle, homePolicy, rootThread, begin, start}
@@ -31,7 +31,6 @@ use Rattle.worlds.specs.declared.WorldRead.{WorldRead}
 use Rattle.worlds.specs.World.{worldView, worldAnswer}
 use Rattle.state.specs.declared.State.{State}
 use Rattle.state.specs.View.{stateView}
-use Rattle.state.specs.Fits.{Fits}
 use Rattle.starts.specs.declared.Threads.{Threads}
 use Rattle.starts.specs.Started.{startView, Started, RootsIn, begunOf}
 
