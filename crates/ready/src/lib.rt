@@ -10,9 +10,8 @@ ghost use Rattle.klaim.specs.Report.{door as doorOf};
 ghost use Rattle.klaim.specs.State as Spec;
 ghost use Rattle.klaim.specs.Invariant.{Invariant};
 ghost use Rattle.klaim.specs.Engine.{agrees as agreesOf, doorAlone, ready as readyOf};
-ghost use Rattle.tables.specs.View.{linesView, rowsView, slotOf, fieldBytes, LowLoc, InForm};
+ghost use Rattle.tables.specs.View.{linesView, rowsView, slotOf, fieldBytes, LowLoc};
 ghost use Rattle.threads.specs.View.{noThread, threadView, threadsView};
-ghost use Rattle.rules.specs.Masks.{Sized};
 ghost use Rattle.door.specs.Parts.{sound};
 ghost use Rattle.plan.specs.Move.{Tables, Plannable, Guests, Admits};
 ghost use Rattle.state.specs.View.{stateView};
@@ -84,6 +83,7 @@ fn some_agrees(
 }
 
 // Whether arrival i is sound at site l; it is found out once, and then known.
+// `known` has a byte for each site and arrival, at 256 * l + i: 1 says no, 2 says yes, 0 nothing.
 fn recalled(
     known: &mut [u8; 8192],
     lines: &[u8; 2560],
