@@ -1,9 +1,12 @@
 -- What check answers, and what it goes by.
 -- Assumes nothing.
+use mathlib.Core.Path.{_≡_}
+use mathlib.Core.List.{List}
 use Prim.Native.Nat.{ℕ}
 use Rattle.klaim.specs.Reader as Reader
 use Rattle.klaim.specs.Reader.{refused, gives}
 use Rattle.klaim.specs.Analysis.{Verdict, accepted, brokenT, brokenQ}
+use Rattle.klaim.specs.Check.{check}
 use Rattle.klaim.proofs.Reader.{NetOk, EstimateOk}
 use Rattle.worlds.specs.declared.WorldRead.{WorldRead}
 use Rattle.worlds.specs.World.{worldView}
@@ -16,6 +19,11 @@ answerView Accepted = gives accepted
 answerView (BrokenTuple i) = gives (brokenT i)
 answerView (BrokenLine q) = gives (brokenQ q)
 answerView (Refused n row) = refused n row
+
+-- check was called: the answer, and the lent buffer behind the call, are those of document 01
+pub record Checks (net estimate before : List ℕ) (a : Answer) (after : List ℕ) : Type 0 where
+  pub answer : answerView a ≡ check net estimate before .answer
+  pub buffer : after ≡ check net estimate before .buffer
 
 -- what the reader ascertains of a net and an estimate
 pub record Sound (w : WorldRead) : Type 0 where

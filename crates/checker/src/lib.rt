@@ -5,11 +5,11 @@ ghost use Prim.Native.Nat.{_≤_};
 ghost use lib.ListN.{length, drop};
 ghost use Rattle.klaim.specs.Analysis.{verdict as verdictOf};
 ghost use Rattle.klaim.specs.Report.{report as reportOf};
-ghost use Rattle.klaim.specs.Check.{check as checkOf, checkRead};
+ghost use Rattle.klaim.specs.Check.{checkRead};
 ghost use Rattle.klaim.specs.Reader.{gives};
 ghost use Rattle.worlds.specs.World.{worldView};
 ghost use Rattle.verdict.specs.Verdict.{verdictView};
-ghost use Rattle.checker.specs.Check.{Sound, answerView};
+ghost use Rattle.checker.specs.Check.{Sound, Checks, answerView};
 use verdict::Verdict;
 use worlds::WorldRead;
 
@@ -96,8 +96,7 @@ fn check_read(w: WorldRead, buffer: &mut [u8]) -> Answer
 // Reads a net and an estimate, and tells whether the rules hold. Accepted, it writes the report into the first 1,024 bytes of the
 // buffer; else it writes nothing.
 pub fn check(net: &[u8], estimate: &[u8], buffer: &mut [u8]) -> Answer
-    ensures { λ r. ⌜ answerView r ≡ checkOf (now (net .entry)) (now (estimate .entry)) (now (buffer .entry)) .answer ⌝ }
-    ensures { λ r. ⌜ now (buffer .exit) ≡ checkOf (now (net .entry)) (now (estimate .entry)) (now (buffer .entry)) .buffer ⌝ }
+    ensures { λ r. ⌜ Checks (now (net .entry)) (now (estimate .entry)) (now (buffer .entry)) r (now (buffer .exit)) ⌝ }
 {
     if buffer.len() < REPORT {
         return Answer::Refused(SHORT_BUFFER, 0);

@@ -13,7 +13,7 @@ use Rattle.worlds.proofs.read_both.Reads as read-both-reads
 -- src/lib.rt:101:9
 returns : tie.Need-returns
 unfolding answerView
-returns c = too-short _ _ _ (c .if1 .taken)
+returns c = let p = too-short _ _ _ (c .if1 .taken) in record { answer = p .0; buffer = p .1 }
 
 -- src/lib.rt:103:9
 read-both-requires : tie.Need-read-both-requires
@@ -22,7 +22,7 @@ read-both-requires c κs = search needs
 -- src/lib.rt:107:9
 returns-2 : tie.Need-returns-2
 unfolding answerView
-returns-2 c = not-read _ _ _ _ (c .before .before .if1 .left) (c .before .read-both .ensures) (c .if2 .taken)
+returns-2 c = let p = not-read _ _ _ _ (c .before .before .if1 .left) (c .before .read-both .ensures) (c .if2 .taken) in record { answer = p .0; buffer = p .1 }
 
 -- src/lib.rt:109:5
 check-read-requires : tie.Need-check-read-requires
@@ -34,7 +34,7 @@ same-length c = c .before .before .check-read .ensures .0
 
 -- src/lib.rt:96:1
 returns-3 : tie.Need-returns-3
-returns-3 c = let e = was-read _ _ _ _ (c .before .before .before .before .before .before .if1 .left) (c .before .before .before .before .before .read-both .ensures) (c .before .before .before .before .if2 .left) in (c .before .before .check-read .ensures .1 .0 ∙ ap (λ (r : Checked). r .answer) e, c .before .before .check-read .ensures .1 .1 ∙ ap (λ (r : Checked). r .buffer) e)
+returns-3 c = let e = was-read _ _ _ _ (c .before .before .before .before .before .before .if1 .left) (c .before .before .before .before .before .read-both .ensures) (c .before .before .before .before .if2 .left) in record { answer = c .before .before .check-read .ensures .1 .0 ∙ ap (λ (r : Checked). r .answer) e; buffer = c .before .before .check-read .ensures .1 .1 ∙ ap (λ (r : Checked). r .buffer) e }
 
 pub check-spec : {M : Type 1} → statement M
 check-spec =
