@@ -1,11 +1,19 @@
-//! The V rows and the U rows of the March listing.
+//! The March listing, from bytes to bytes.
 ghost use mathlib.Core.Path.{_≡_};
+ghost use mathlib.Core.List.{[], _∷_};
 ghost use Prim.Native.Nat.{_+_, _*_, _<_, _≤_};
 ghost use lib.ListN.{length};
 ghost use Rattle.klaim.specs.Limits.{siteLimit, reportSize};
-ghost use Rattle.klaim.specs.Listing.{rowsV};
+ghost use Rattle.sets.specs.Lists.{table};
+ghost use Rattle.klaim.specs.Analysis.{accepted};
+ghost use Rattle.klaim.specs.Reader.{refused};
+ghost use Rattle.klaim.specs.Listing.{numeral, row as wordRow, rowsV, homeCount, usedCount, listVerdict, listRead, listing as listingOf};
+ghost use Rattle.worlds.specs.World.{worldView, worldAnswer};
+ghost use Rattle.checker.specs.Check.{Sound};
 ghost use Rattle.writer.specs.Wrote.{Wrote};
 ghost use Rattle.listing.specs.Lines.{entryV, lineU, linesU, acceptedList, Counts};
+use verdict::Verdict;
+use worlds::WorldRead;
 
 // The limits of document 01.
 const SITES: usize = 32;
@@ -84,4 +92,90 @@ pub fn put_listing<'a>(
     let a = rows::put_accepted(out, 0, count);
     let b = put_rows_v(out, a, report);
     put_rows_u(out, b, held, used, n)
+}
+
+// The most bytes of an input.
+const INPUT: usize = 65536;
+
+// The counts of the rights that each site uses of those it holds.
+fn used(w: WorldRead) -> [u32; 32]
+    requires { ⌜ Sound w ⌝ }
+    ensures { λ r. ⌜ r ≡ table 32 (usedCount (worldView w)) ⌝ }
+{
+    usable::used_counts(
+        &w.net.homes,
+        &w.net.roots,
+        w.net.nroots,
+        &w.net.lines,
+        w.net.nlines,
+        &w.net.boxes,
+        &w.estimate.binds,
+        &w.estimate.hold,
+    )
+}
+
+// The counts of the rights that each site holds.
+fn held(w: WorldRead) -> [u32; 32]
+    ensures { λ r. ⌜ r ≡ table 32 (homeCount (worldView w .net)) ⌝ }
+{
+    counts::home_counts(&w.net.homes)
+}
+
+// The listing of a net that is accepted.
+fn list_accepted(w: WorldRead, out: &mut [u8]) -> usize
+    requires { ⌜ Sound w × (17006 ≤ length (now out)) ⌝ }
+    ensures { λ r. ⌜ Wrote (now (out .entry)) (now (out .exit)) 0 (listVerdict (worldView w) accepted) r ⌝ }
+{
+    let report = checker::reported(w);
+    let held = held(w);
+    let used = used(w);
+    let n = w.net.size;
+    put_listing(out, &report, &held, &used, n)
+}
+
+// The row of a refusal.
+fn put_refusal(out: &mut [u8], number: u8, row: usize) -> usize
+    requires { ⌜ (row < 100000) × (17006 ≤ length (now out)) ⌝ }
+    ensures { λ r. ⌜ Wrote (now (out .entry)) (now (out .exit)) 0 (listRead (refused number row)) r ⌝ }
+{
+    rows::put_refused(out, 0, number as u32, row as u32)
+}
+
+// The row of a broken rule at a T row or a Q line.
+fn put_break(out: &mut [u8], kind: u8, number: u16) -> usize
+    requires { ⌜ 17006 ≤ length (now out) ⌝ }
+    ensures { λ r. ⌜ Wrote (now (out .entry)) (now (out .exit)) 0 (wordRow "broken" ((kind ∷ []) ∷ numeral number ∷ [])) r ⌝ }
+{
+    rows::put_broken(out, 0, kind, number as u32)
+}
+
+// The listing of a net that was read, or of its refusal.
+fn list_read(w: WorldRead, out: &mut [u8]) -> usize
+    requires { ⌜ (w .number ≡ 0 → Sound w) × ((w .number ≡ 0 → ⊥) → w .row < 100000) × (17006 ≤ length (now out)) ⌝ }
+    ensures { λ r. ⌜ Wrote (now (out .entry)) (now (out .exit)) 0 (listRead (worldAnswer w)) r ⌝ }
+{
+    let number = w.number;
+    if number != 0 {
+        let row = w.row;
+        return put_refusal(out, number, row);
+    }
+    match checker::judged(w) {
+        Verdict::Accepted => list_accepted(w, out),
+        Verdict::BrokenTuple(i) => put_break(out, b'T', i),
+        Verdict::BrokenLine(q) => put_break(out, b'Q', q),
+    }
+}
+
+// The March listing: from the bytes of the input, a net, a row `.` and an estimate, to the bytes of the listing, which stand from
+// the first byte of the output on. Answers how many they are; 17,006 bytes hold every listing.
+pub fn list(input: &[u8], output: &mut [u8; 17006]) -> usize
+    ensures { λ r. ⌜ Wrote (now (output .entry)) (now (output .exit)) 0 (listingOf (now (input .entry))) r ⌝ }
+{
+    if INPUT < input.len() {
+        return put_refusal(output, 2, 0);
+    }
+    let n = parts::before(input);
+    let from = parts::behind(input, n);
+    let w = worlds::read_both(&input[..n], &input[from..]);
+    list_read(w, output)
 }
