@@ -114,3 +114,7 @@ behind-short from input = omega (arith, length-take (length input - from) (drop 
 
 pub part-count : (n : ℕ) (input : List ℕ) → n ≡ before true input → n ≡ length (take n input)
 part-count n input e = omega (arith, before-most input, length-take n input)
+
+-- what was written from the first byte on, where it fits
+pub fits-in : {a b xs : List ℕ} {next : ℕ} → Wrote a b 0 xs next → 0 + length xs ≤ 17006 → next ≤ 17006
+fits-in W h = omega (arith, W .ends)

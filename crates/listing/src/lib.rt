@@ -87,6 +87,7 @@ pub fn put_listing<'a>(
 ) -> usize
     requires { ⌜ (length (now report) ≡ reportSize) × Counts (now held) (now used) × (n ≤ siteLimit) × (17006 ≤ length (now out)) ⌝ }
     ensures { λ r. ⌜ Wrote (now (out .entry)) (now (out .exit)) 0 (acceptedList (now (report .entry)) (now (held .entry)) (now (used .entry)) n) r ⌝ }
+    ensures { λ r. ⌜ r ≤ 17006 ⌝ }
 {
     let count = counts::reported(report);
     let a = rows::put_accepted(out, 0, count);
@@ -125,6 +126,7 @@ fn held(w: WorldRead) -> [u32; 32]
 fn list_accepted(w: WorldRead, out: &mut [u8]) -> usize
     requires { ⌜ Sound w × (17006 ≤ length (now out)) ⌝ }
     ensures { λ r. ⌜ Wrote (now (out .entry)) (now (out .exit)) 0 (listVerdict (worldView w) accepted) r ⌝ }
+    ensures { λ r. ⌜ r ≤ 17006 ⌝ }
 {
     let report = checker::reported(w);
     let held = held(w);
@@ -137,6 +139,7 @@ fn list_accepted(w: WorldRead, out: &mut [u8]) -> usize
 fn put_refusal(out: &mut [u8], number: u8, row: usize) -> usize
     requires { ⌜ (row < 100000) × (17006 ≤ length (now out)) ⌝ }
     ensures { λ r. ⌜ Wrote (now (out .entry)) (now (out .exit)) 0 (listRead (refused number row)) r ⌝ }
+    ensures { λ r. ⌜ r ≤ 17006 ⌝ }
 {
     rows::put_refused(out, 0, number as u32, row as u32)
 }
@@ -145,6 +148,7 @@ fn put_refusal(out: &mut [u8], number: u8, row: usize) -> usize
 fn put_break(out: &mut [u8], kind: u8, number: u16) -> usize
     requires { ⌜ 17006 ≤ length (now out) ⌝ }
     ensures { λ r. ⌜ Wrote (now (out .entry)) (now (out .exit)) 0 (wordRow "broken" ((kind ∷ []) ∷ numeral number ∷ [])) r ⌝ }
+    ensures { λ r. ⌜ r ≤ 17006 ⌝ }
 {
     rows::put_broken(out, 0, kind, number as u32)
 }
@@ -153,6 +157,7 @@ fn put_break(out: &mut [u8], kind: u8, number: u16) -> usize
 fn list_read(w: WorldRead, out: &mut [u8]) -> usize
     requires { ⌜ (w .number ≡ 0 → Sound w) × ((w .number ≡ 0 → ⊥) → w .row < 100000) × (17006 ≤ length (now out)) ⌝ }
     ensures { λ r. ⌜ Wrote (now (out .entry)) (now (out .exit)) 0 (listRead (worldAnswer w)) r ⌝ }
+    ensures { λ r. ⌜ r ≤ 17006 ⌝ }
 {
     let number = w.number;
     if number != 0 {
@@ -170,6 +175,7 @@ fn list_read(w: WorldRead, out: &mut [u8]) -> usize
 // the first byte of the output on. Answers how many they are; 17,006 bytes hold every listing.
 pub fn list(input: &[u8], output: &mut [u8; 17006]) -> usize
     ensures { λ r. ⌜ Wrote (now (output .entry)) (now (output .exit)) 0 (listingOf (now (input .entry))) r ⌝ }
+    ensures { λ r. ⌜ r ≤ 17006 ⌝ }
 {
     if INPUT < input.len() {
         return put_refusal(output, 2, 0);

@@ -18,7 +18,7 @@ put-refusal-requires c κs = search needs
 
 -- src/lib.rt:176:9
 returns : tie.Need-returns
-returns c = wrote-as (list-long _ (c .before .before .if1 .taken)) (c .put-refusal .ensures)
+returns c = (wrote-as (list-long _ (c .before .before .if1 .taken)) (c .put-refusal .ensures .0), c .put-refusal .ensures .1)
 
 -- src/lib.rt:178:9
 before-requires : tie.Need-before-requires
@@ -54,7 +54,7 @@ list-read-requires c κs = let e = c .before .read-both .ensures in (λ z. sound
 
 -- src/lib.rt:172:1
 returns-2 : tie.Need-returns-2
-returns-2 c = wrote-as (list-parts (c .before .before .before .before .before .before .before .before .before .args .input .now) _ _ _ (c .before .before .before .before .before .before .before .if1 .left) (c .before .before .read-both .ensures) (part-net _ _ (c .before .before .before .before .before .before .before2 .ensures)) (part-estimate _ _ (c .before .before .before .before .before .behind .ensures .1))) (c .list-read .ensures)
+returns-2 c = (wrote-as (list-parts (c .before .before .before .before .before .before .before .before .before .args .input .now) _ _ _ (c .before .before .before .before .before .before .before .if1 .left) (c .before .before .read-both .ensures) (part-net _ _ (c .before .before .before .before .before .before .before2 .ensures)) (part-estimate _ _ (c .before .before .before .before .before .behind .ensures .1))) (c .list-read .ensures .0), c .list-read .ensures .1)
 
 pub list-spec : {M : Type 1} → statement M
 list-spec =

@@ -28,11 +28,11 @@ put-listing-requires c κs = (report-long _ (c .before .before .before .before .
 
 -- src/lib.rt:124:1
 same-length : tie.Need-same-length
-same-length c = wrote-long (c .before .before .put-listing .ensures)
+same-length c = wrote-long (c .before .before .put-listing .ensures .0)
 
 -- src/lib.rt:124:1
 returns : tie.Need-returns
-returns c = wrote-as (accepted-world _ _ _ _ (world-few _ (c .before .before .before .before .before .before .before .before .before .before .before .pre .0)) (c .before .before .before .before .before .before .before .before .before .reported .ensures) (c .before .before .before .before .before .before .before .before .held .ensures) (c .before .before .before .before .before .before .before .used .ensures)) (c .before .before .put-listing .ensures)
+returns c = (wrote-as (accepted-world _ _ _ _ (world-few _ (c .before .before .before .before .before .before .before .before .before .before .before .pre .0)) (c .before .before .before .before .before .before .before .before .before .reported .ensures) (c .before .before .before .before .before .before .before .before .held .ensures) (c .before .before .before .before .before .before .before .used .ensures)) (c .before .before .put-listing .ensures .0), c .before .before .put-listing .ensures .1)
 
 pub list-accepted-spec : {M : Type 1} → statement M
 list-accepted-spec =

@@ -19,11 +19,11 @@ put-refusal-requires c κs = (c .before .before .before .pre .1 (c .before .if1 
 
 -- src/lib.rt:161:9
 same-length : tie.Need-same-length
-same-length c = wrote-long (c .before .before .put-refusal .ensures)
+same-length c = wrote-long (c .before .before .put-refusal .ensures .0)
 
 -- src/lib.rt:161:9
 returns : tie.Need-returns
-returns c = wrote-as (list-refused _ (c .before .before .before .before .if1 .taken)) (c .before .before .put-refusal .ensures)
+returns c = (wrote-as (list-refused _ (c .before .before .before .before .if1 .taken)) (c .before .before .put-refusal .ensures .0), c .before .before .put-refusal .ensures .1)
 
 -- src/lib.rt:163:11
 judged-requires : tie.Need-judged-requires
@@ -55,30 +55,30 @@ put-break-requires-2 c κs = c .before .before .before .before .before .before .
 
 -- src/lib.rt:154:1
 same-length-2 : tie.Need-same-length-2
-same-length-2 c = wrote-long (c .before .before .list-accepted .ensures)
+same-length-2 c = wrote-long (c .before .before .list-accepted .ensures .0)
 
 -- src/lib.rt:154:1
 returns-2 : tie.Need-returns-2
 unfolding verdictView
-returns-2 c = wrote-as (list-verdict _ _ (c .before .before .before .before .before .before .before .if1 .left) (sym (ap verdictView (c .before .before .before .before .enum-told .given .1)) ∙ c .before .before .before .before .before .before .judged .ensures)) (c .before .before .list-accepted .ensures)
+returns-2 c = (wrote-as (list-verdict _ _ (c .before .before .before .before .before .before .before .if1 .left) (sym (ap verdictView (c .before .before .before .before .enum-told .given .1)) ∙ c .before .before .before .before .before .before .judged .ensures)) (c .before .before .list-accepted .ensures .0), c .before .before .list-accepted .ensures .1)
 
 -- src/lib.rt:154:1
 same-length-3 : tie.Need-same-length-3
-same-length-3 c = wrote-long (c .before .before .put-break .ensures)
+same-length-3 c = wrote-long (c .before .before .put-break .ensures .0)
 
 -- src/lib.rt:154:1
 returns-3 : tie.Need-returns-3
 unfolding verdictView
-returns-3 c = wrote-as (broken-tuple-list _ _ ∙ list-verdict _ _ (c .before .before .before .before .before .before .before .before .if1 .left) (sym (ap verdictView (c .before .before .before .before .before .i .given .1)) ∙ c .before .before .before .before .before .before .before .judged .ensures)) (c .before .before .put-break .ensures)
+returns-3 c = (wrote-as (broken-tuple-list _ _ ∙ list-verdict _ _ (c .before .before .before .before .before .before .before .before .if1 .left) (sym (ap verdictView (c .before .before .before .before .before .i .given .1)) ∙ c .before .before .before .before .before .before .before .judged .ensures)) (c .before .before .put-break .ensures .0), c .before .before .put-break .ensures .1)
 
 -- src/lib.rt:154:1
 same-length-4 : tie.Need-same-length-4
-same-length-4 c = wrote-long (c .before .before .put-break2 .ensures)
+same-length-4 c = wrote-long (c .before .before .put-break2 .ensures .0)
 
 -- src/lib.rt:154:1
 returns-4 : tie.Need-returns-4
 unfolding verdictView
-returns-4 c = wrote-as (broken-line-list _ _ ∙ list-verdict _ _ (c .before .before .before .before .before .before .before .before .if1 .left) (sym (ap verdictView (c .before .before .before .before .before .q .given .1)) ∙ c .before .before .before .before .before .before .before .judged .ensures)) (c .before .before .put-break2 .ensures)
+returns-4 c = (wrote-as (broken-line-list _ _ ∙ list-verdict _ _ (c .before .before .before .before .before .before .before .before .if1 .left) (sym (ap verdictView (c .before .before .before .before .before .q .given .1)) ∙ c .before .before .before .before .before .before .before .judged .ensures)) (c .before .before .put-break2 .ensures .0), c .before .before .put-break2 .ensures .1)
 
 pub list-read-spec : {M : Type 1} → statement M
 list-read-spec =

@@ -1,7 +1,7 @@
 use borrow.Author.Needs.{needs}
 use native.Mathlib.Omega.{arith}
 use Rattle.writer.proofs.Wrote.{wrote-long}
-use Rattle.listing.proofs.Reading.{broken-fits}
+use Rattle.listing.proofs.Reading.{broken-fits, fits-in}
 use Rattle.listing.proofs.put_break.Statement.{statement}
 use Rattle.listing.proofs.put_break.Tie as tie
 use Rattle.listing.proofs.put_break.Reads as reads
@@ -18,7 +18,7 @@ same-length c = wrote-long (c .before .before .put-broken .ensures)
 
 -- src/lib.rt:146:1
 returns : tie.Need-returns
-returns c = c .before .before .put-broken .ensures
+returns c = (c .before .before .put-broken .ensures, fits-in (c .before .before .put-broken .ensures) (broken-fits _ _ (omega (arith, c .before .before .before .before .before .fits))))
 
 pub put-break-spec : {M : Type 1} → statement M
 put-break-spec = tie.close (tie.spec put-broken-requires same-length returns)

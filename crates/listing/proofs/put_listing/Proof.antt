@@ -41,7 +41,7 @@ returns c =
     let v = u .before .before .before .before in
     let a = v .before .before .before .before in
     let k = a .before .before in
-    wrote-then (wrote-as (ap (λ (n : ℕ). row "accepted" (numeral n ∷ [])) (k .reported .ensures)) (a .put-accepted .ensures)) (wrote-then (v .put-rows-v .ensures .1) (u .put-rows-u .ensures .1))
+    (wrote-then (wrote-as (ap (λ (n : ℕ). row "accepted" (numeral n ∷ [])) (k .reported .ensures)) (a .put-accepted .ensures)) (wrote-then (v .put-rows-v .ensures .1) (u .put-rows-u .ensures .1)), omega (arith, short k, a .put-accepted .ensures .ends, v .put-rows-v .ensures .0, u .put-rows-u .ensures .0, k .before .before .pre .2))
 
 pub put-listing-spec : {M : Type 1} → statement M
 put-listing-spec =

@@ -2,7 +2,7 @@ use borrow.Author.Needs.{needs}
 use native.Mathlib.Omega.{arith}
 use Rattle.writer.proofs.Wrote.{wrote-long, wrote-as}
 use Rattle.rows.proofs.Rows.{refused-list}
-use Rattle.listing.proofs.Reading.{refused-fits}
+use Rattle.listing.proofs.Reading.{refused-fits, fits-in}
 use Rattle.listing.proofs.put_refusal.Statement.{statement}
 use Rattle.listing.proofs.put_refusal.Tie as tie
 use Rattle.listing.proofs.put_refusal.Reads as reads
@@ -23,7 +23,7 @@ same-length c = wrote-long (c .before .before .put-refused .ensures)
 
 -- src/lib.rt:138:1
 returns : tie.Need-returns
-returns c = wrote-as (refused-list _ _) (c .before .before .put-refused .ensures)
+returns c = (wrote-as (refused-list _ _) (c .before .before .put-refused .ensures), fits-in (c .before .before .put-refused .ensures) (refused-fits _ _ (omega (arith, c .before .before .before .before .before .fits)) (c .before .before .before .before .before .pre .0)))
 
 pub put-refusal-spec : {M : Type 1} → statement M
 put-refusal-spec = tie.close (tie.spec cast-put-refused put-refused-requires same-length returns)
