@@ -77,5 +77,5 @@ pub both-row : (net estimate : List ℕ) (m n row : ℕ) → length net < m → 
 unfolding readBoth readNet readEstimate
 both-row net estimate m n row h g e = subst (λ (a : Answer World). rowOf a ≤ m) (sym e)
     (then-row m (readNet net) _
-      (then-row m (readRows aNet net) wholeNet (omega (arith, read-row aNet net)) (λ rows. omega (arith, net-row rows)))
-      (λ N. then-row m (readEstimate (N .size) estimate) _ (then-row m (readRows (anEstimate (N .size)) estimate) _ (omega (arith, read-row (anEstimate (N .size)) estimate)) (λ rows. omega arith)) (λ E. omega arith)))
+    (then-row m (readRows aNet net) wholeNet (omega (arith, read-row aNet net)) (λ rows. omega (arith, net-row rows)))
+    (λ N. then-row m (readEstimate (N .size) estimate) _ (then-row m (readRows (anEstimate (N .size)) estimate) _ (omega (arith, read-row (anEstimate (N .size)) estimate)) (λ rows. omega arith)) (λ E. omega arith)))
