@@ -4,6 +4,7 @@ use mathlib.Core.Path.{_≡_, refl, sym, ap, ap₂, _∙_}
 use mathlib.Core.Bool.{Bool, true, false}
 use mathlib.Core.List.{List}
 use Prim.Native.Nat.{ℕ, suc, _+_, _*_, _<_, _≤_, min}
+use native.Mathlib.Decide.{ℕ-discrete}
 use native.Mathlib.Omega.{arith}
 use lib.Dec.{eqb}
 use lib.ListN.{length, getD, take, drop, length-take, length-drop, drop-of-length-le}
@@ -62,6 +63,16 @@ module _ (bs b : List ℕ) (i j n : ℕ) (low : i < 256) (long : length bs ≡ 1
   pub same-no : (getD bs (6 * i + 1 + j) 0 ≡ getD b (1 + j) 0 → ⊥) → same (drop j (rowAt bs i)) (drop j (rowAt b 0)) ≡ false
   unfolding _&_
   same-no t = same-at ∙ ap (λ (x : Bool). x & same (drop (suc j) (rowAt bs i)) (drop (suc j) (rowAt b 0))) (ne-eqb (getD bs (6 * i + 1 + j) 0) (getD b (1 + j) 0) t)
+
+-- tuples that differ in their first site
+pub other-first : (bs b : List ℕ) (i : ℕ) → i < 256 → length bs ≡ 1536 → length b ≡ 6 → (getD b 0 0 ≡ 0 → ⊥) → (getD bs (6 * i + 1) 0 ≡ getD b 1 0 → ⊥) → false ≡ same (rowAt bs i) (rowAt b 0)
+other-first bs b i low long six some h = go (ℕ-discrete (length (rowAt bs i)) (length (rowAt b 0)))
+  where
+    go : Dec (length (rowAt bs i) ≡ length (rowAt b 0)) → false ≡ same (rowAt bs i) (rowAt b 0)
+    go (yes e) =
+        let p : 6 * i + 1 ≡ 6 * i + 1 + 0 = omega arith in
+        sym (same-no bs b i 0 (length (rowAt b 0)) low long six e refl (omega (arith, bytes-long b six)) (λ q. h (ap (λ (k : ℕ). getD bs k 0) p ∙ q)))
+    go (no n) = same-other (rowAt bs i) (rowAt b 0) n
 
 -- a search through a table, from place i on
 module _ {A : Type 0} (f : A → Bool) (n : ℕ) (g : ℕ → A) where

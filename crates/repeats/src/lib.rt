@@ -109,6 +109,21 @@ fn same_row(rows: &[u8; 1536], i: usize, b: [u8; 6]) -> bool
     true
 }
 
+// Whether tuple i is the one of the bytes b: most differ in their first site.
+fn row_is(rows: &[u8; 1536], i: usize, b: [u8; 6]) -> bool
+    requires { ⌜ i < 256 ⌝ }
+    requires { ⌜ length (now rows) ≡ 1536 ⌝ }
+    ensures { λ r. ⌜ r ≡ same (rowAt (now (rows .entry)) i) (rowAt b 0) ⌝ }
+{
+    if b[0] == 0 {
+        return same_row(rows, i, b);
+    }
+    if rows[TUPLE * i + 1] != b[1] {
+        return false;
+    }
+    same_row(rows, i, b)
+}
+
 // Whether one of the n tuples of a table is the tuple b.
 fn has_row(rows: &[u8; 1536], n: usize, b: [u8; 6]) -> bool
     requires { ⌜ n ≤ 256 ⌝ }
@@ -117,7 +132,7 @@ fn has_row(rows: &[u8; 1536], n: usize, b: [u8; 6]) -> bool
 {
     let mut i: usize = 0;
     while i < n {
-        if same_row(rows, i, b) {
+        if row_is(rows, i, b) {
             return true;
         }
         i += 1;

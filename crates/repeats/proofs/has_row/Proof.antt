@@ -18,15 +18,15 @@ abbrev μ-loop : tie.MeasureT-loop
 loop-holds : tie.Need-loop-holds Inv-loop μ-loop
 loop-holds c = (omega arith, refl)
 
-same-row-requires : tie.Need-same-row-requires Inv-loop μ-loop
-same-row-requires c κs = search needs
+row-is-requires : tie.Need-row-is-requires Inv-loop μ-loop
+row-is-requires c κs = search needs
 
 returns : tie.Need-returns Inv-loop μ-loop
 unfolding rowsView
 returns c =
     let at = c .before .before .before .loop in
     let ar = c .before .before .before .before .args in
-    sym (at .inv .1 ∙ any-yes (λ x. same x (rowAt (ar .b) 0)) (ar .n) (rowAt (ar .rows .now)) (at .i) (omega arith) (sym (c .before .same-row .ensures) ∙ c .if1 .taken))
+    sym (at .inv .1 ∙ any-yes (λ x. same x (rowAt (ar .b) 0)) (ar .n) (rowAt (ar .rows .now)) (at .i) (omega arith) (sym (c .before .row-is .ensures) ∙ c .if1 .taken))
 
 add-i : tie.Need-add-i Inv-loop μ-loop
 add-i c = search needs
@@ -39,7 +39,7 @@ loop-again c =
     let at = c .before .before .before .loop in
     let ar = c .before .before .before .before .args in
     let e : suc (at .i) ≡ at .i + 1 = omega arith in
-    (omega arith, at .inv .1 ∙ any-no (λ x. same x (rowAt (ar .b) 0)) (ar .n) (rowAt (ar .rows .now)) (at .i) (at .i + 1) (omega arith) e (sym (c .before .same-row .ensures) ∙ c .if1 .left))
+    (omega arith, at .inv .1 ∙ any-no (λ x. same x (rowAt (ar .b) 0)) (ar .n) (rowAt (ar .rows .now)) (at .i) (at .i + 1) (omega arith) e (sym (c .before .row-is .ensures) ∙ c .if1 .left))
 
 returns-2 : tie.Need-returns-2 Inv-loop μ-loop
 unfolding rowsView
@@ -55,7 +55,7 @@ has-row-spec =
     Inv-loop
     μ-loop
     loop-holds
-    same-row-requires
+    row-is-requires
     returns
     add-i
     loop-less
