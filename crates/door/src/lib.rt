@@ -9,6 +9,7 @@ ghost use Rattle.klaim.specs.Net.{Net, Estimate, boxAt};
 ghost use Rattle.klaim.specs.Report.{door as doorOf};
 ghost use Rattle.tables.specs.View.{linesView, rowsView, InForm};
 ghost use Rattle.rules.specs.Masks.{Sized};
+ghost use Rattle.door.specs.Parts.{sound as soundOf, usesFit};
 use flow::UseMap;
 
 // Whether a use map lies within sandbox d evaluated at site l.
@@ -25,6 +26,48 @@ fn uses_within(m: UseMap, boxes: &[u8; 1056], d: u8, l: u8) -> bool
         ok = rules::both(rules::within(rights[at], flow::box_at(boxes, d, l, t)), ok);
     }
     ok
+}
+
+// Whether all rules hold for the lines of the arrival whose root is line q with place set l, and none of its eval lines adds
+// anything to a report.
+pub fn sound(
+    lines: &[u8; 2560],
+    n: usize,
+    boxes: &[u8; 1056],
+    binds: &[u32; 32],
+    hold: &[u8; 1024],
+    rows: &[u8; 1536],
+    count: usize,
+    l: u8,
+    q: u8,
+) -> bool
+    requires { ⌜ InForm n (now lines) q × (n ≤ 256) × (length (now lines) ≡ 2560) × Sized count (now rows) × (l < 32) ⌝ }
+    ensures { λ r. ⌜ ((N : Net) (E : Estimate) → N .boxes ≡ now (boxes .entry) → E .binds ≡ now (binds .entry) → E .hold ≡ now (hold .entry) → E .stand ≡ rowsView count (now (rows .entry)) → r ≡ soundOf N E l (tree (linesView n (now (lines .entry))) q)) ⌝ }
+{
+    let places = sets::single(l);
+    let first = broken::first_broken(lines, n, boxes, binds, hold, rows, count, places, q);
+    if first != broken::NONE {
+        return false;
+    }
+    report::adds_nothing(lines, n, boxes, binds, places, q)
+}
+
+// Whether the use map of the arrival whose root is line q lies within sandbox d evaluated at site l.
+pub fn uses_fit(
+    lines: &[u8; 2560],
+    n: usize,
+    boxes: &[u8; 1056],
+    binds: &[u32; 32],
+    d: u8,
+    l: u8,
+    q: u8,
+) -> bool
+    requires { ⌜ InForm n (now lines) q × (d < 32) × (l < 32) ⌝ }
+    ensures { λ r. ⌜ ((N : Net) (E : Estimate) → N .boxes ≡ now (boxes .entry) → E .binds ≡ now (binds .entry) → r ≡ usesFit N E d l (tree (linesView n (now (lines .entry))) q)) ⌝ }
+{
+    let places = sets::single(l);
+    let uses = flow::use_map(lines, n, boxes, binds, places, q);
+    uses_within(uses, boxes, d, l)
 }
 
 // The door for the arrival whose root is line q, at site l under sandbox d: all rules hold for its lines with place set l,
@@ -44,14 +87,8 @@ pub fn passes(
     requires { ⌜ InForm n (now lines) q × (n ≤ 256) × (length (now lines) ≡ 2560) × Sized count (now rows) × (d < 32) × (l < 32) ⌝ }
     ensures { λ r. ⌜ ((N : Net) (E : Estimate) → N .boxes ≡ now (boxes .entry) → E .binds ≡ now (binds .entry) → E .hold ≡ now (hold .entry) → E .stand ≡ rowsView count (now (rows .entry)) → r ≡ doorOf N E d l (tree (linesView n (now (lines .entry))) q)) ⌝ }
 {
-    let places = sets::single(l);
-    let first = broken::first_broken(lines, n, boxes, binds, hold, rows, count, places, q);
-    if first != broken::NONE {
-        return false;
-    }
-    let uses = flow::use_map(lines, n, boxes, binds, places, q);
-    if uses_within(uses, boxes, d, l) {
-        return report::adds_nothing(lines, n, boxes, binds, places, q);
+    if uses_fit(lines, n, boxes, binds, d, l, q) {
+        return sound(lines, n, boxes, binds, hold, rows, count, l, q);
     }
     false
 }

@@ -1,2 +1,3 @@
 pub mod Runnable
 pub mod Laws
+pub mod Memo

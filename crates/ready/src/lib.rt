@@ -10,13 +10,14 @@ ghost use Rattle.klaim.specs.Report.{door as doorOf};
 ghost use Rattle.klaim.specs.State as Spec;
 ghost use Rattle.klaim.specs.Invariant.{Invariant};
 ghost use Rattle.klaim.specs.Engine.{agrees as agreesOf, doorAlone, ready as readyOf};
-ghost use Rattle.tables.specs.View.{linesView, rowsView, slotOf, fieldBytes, LowLoc, InForm};
+ghost use Rattle.tables.specs.View.{linesView, rowsView, slotOf, fieldBytes, LowLoc};
 ghost use Rattle.threads.specs.View.{noThread, threadView, threadsView};
-ghost use Rattle.rules.specs.Masks.{Sized};
+ghost use Rattle.door.specs.Parts.{sound};
 ghost use Rattle.plan.specs.Move.{Tables, Plannable, Guests, Admits};
 ghost use Rattle.state.specs.View.{stateView};
 ghost use Rattle.state.specs.Fits.{Fits};
 ghost use Rattle.ready.specs.Runs.{standing, room as roomOf, welcome, runs as runsOf};
+ghost use Rattle.ready.specs.Known.{Knows};
 ghost use Rattle.ready.specs.View.{doorView, readyView};
 use klaim::Loc;
 use state::State;
@@ -81,9 +82,10 @@ fn some_agrees(
     false
 }
 
-// Whether the arrival whose root is line q passes the door at site l under sandbox d, and there is room for it beside `count`
-// threads, of which one comes to line a.
-fn welcomes(
+// Whether arrival i is sound at site l; it is found out once, and then known.
+// `known` has a byte for each site and arrival, at 256 * l + i: 1 says no, 2 says yes, 0 nothing.
+fn recalled(
+    known: &mut [u8; 8192],
     lines: &[u8; 2560],
     n: usize,
     boxes: &[u8; 1056],
@@ -91,23 +93,118 @@ fn welcomes(
     hold: &[u8; 1024],
     stand: &[u8; 1536],
     nstand: usize,
+    arrivals: &[u8; 256],
+    narrivals: usize,
+    l: u8,
+    i: usize,
+) -> bool
+    requires { ⌜ Admits (now lines) n (now stand) nstand (now arrivals) narrivals × Knows (now lines) n (now boxes) (now binds) (now hold) (now stand) nstand (now arrivals) (now known) × (l < 32) × (i < narrivals) ⌝ }
+    ensures { λ r. ⌜ ((N : Net) (E : Estimate) → N .boxes ≡ now (boxes .entry) → E .binds ≡ now (binds .entry) → E .hold ≡ now (hold .entry) → E .stand ≡ rowsView nstand (now (stand .entry)) → r ≡ sound N E l (tree (linesView n (now (lines .entry))) (getD (now (arrivals .entry)) i 0))) ⌝ }
+    ensures { λ r. ⌜ Knows (now (lines .entry)) n (now (boxes .entry)) (now (binds .entry)) (now (hold .entry)) (now (stand .entry)) nstand (now (arrivals .entry)) (now (known .exit)) ⌝ }
+{
+    let at = tables::LINES * (l as usize) + i;
+    if known[at] == 2 {
+        return true;
+    }
+    if known[at] == 1 {
+        return false;
+    }
+    let q = arrivals[i];
+    if door::sound(lines, n, boxes, binds, hold, stand, nstand, l, q) {
+        known[at] = 2;
+        return true;
+    }
+    known[at] = 1;
+    false
+}
+
+// Whether arrival i passes the door at site l under sandbox d.
+fn admitted(
+    known: &mut [u8; 8192],
+    lines: &[u8; 2560],
+    n: usize,
+    boxes: &[u8; 1056],
+    binds: &[u32; 32],
+    hold: &[u8; 1024],
+    stand: &[u8; 1536],
+    nstand: usize,
+    arrivals: &[u8; 256],
+    narrivals: usize,
+    l: u8,
+    d: u8,
+    i: usize,
+) -> bool
+    requires { ⌜ Admits (now lines) n (now stand) nstand (now arrivals) narrivals × Knows (now lines) n (now boxes) (now binds) (now hold) (now stand) nstand (now arrivals) (now known) × (l < 32) × (d < 32) × (i < narrivals) ⌝ }
+    ensures { λ r. ⌜ ((N : Net) (E : Estimate) → N .boxes ≡ now (boxes .entry) → E .binds ≡ now (binds .entry) → E .hold ≡ now (hold .entry) → E .stand ≡ rowsView nstand (now (stand .entry)) → r ≡ doorOf N E d l (tree (linesView n (now (lines .entry))) (getD (now (arrivals .entry)) i 0))) ⌝ }
+    ensures { λ r. ⌜ Knows (now (lines .entry)) n (now (boxes .entry)) (now (binds .entry)) (now (hold .entry)) (now (stand .entry)) nstand (now (arrivals .entry)) (now (known .exit)) ⌝ }
+{
+    let q = arrivals[i];
+    if door::uses_fit(lines, n, boxes, binds, d, l, q) {
+        return recalled(
+            known,
+            lines,
+            n,
+            boxes,
+            binds,
+            hold,
+            stand,
+            nstand,
+            arrivals,
+            narrivals,
+            l,
+            i,
+        );
+    }
+    false
+}
+
+// Whether arrival i passes the door at site l under sandbox d, and there is room for it beside `count` threads, of which one
+// comes to line a.
+fn welcomes(
+    known: &mut [u8; 8192],
+    lines: &[u8; 2560],
+    n: usize,
+    boxes: &[u8; 1056],
+    binds: &[u32; 32],
+    hold: &[u8; 1024],
+    stand: &[u8; 1536],
+    nstand: usize,
+    arrivals: &[u8; 256],
+    narrivals: usize,
     count: usize,
     a: u8,
     l: u8,
     d: u8,
-    q: u8,
+    i: usize,
 ) -> bool
-    requires { ⌜ InForm n (now lines) q × (n ≤ 256) × (length (now lines) ≡ 2560) × Sized nstand (now stand) × (d < 32) × (l < 32) × (a < n) × (count ≤ 64) ⌝ }
-    ensures { λ r. ⌜ ((N : Net) (E : Estimate) → N .boxes ≡ now (boxes .entry) → E .binds ≡ now (binds .entry) → E .hold ≡ now (hold .entry) → E .stand ≡ rowsView nstand (now (stand .entry)) → r ≡ (doorOf N E d l (tree (linesView n (now (lines .entry))) q) & roomOf count (linesView n (now (lines .entry))) a q)) ⌝ }
+    requires { ⌜ Admits (now lines) n (now stand) nstand (now arrivals) narrivals × Knows (now lines) n (now boxes) (now binds) (now hold) (now stand) nstand (now arrivals) (now known) × (l < 32) × (d < 32) × (a < n) × (count ≤ 64) × (i < narrivals) ⌝ }
+    ensures { λ r. ⌜ ((N : Net) (E : Estimate) → N .boxes ≡ now (boxes .entry) → E .binds ≡ now (binds .entry) → E .hold ≡ now (hold .entry) → E .stand ≡ rowsView nstand (now (stand .entry)) → r ≡ (doorOf N E d l (tree (linesView n (now (lines .entry))) (getD (now (arrivals .entry)) i 0)) & roomOf count (linesView n (now (lines .entry))) a (getD (now (arrivals .entry)) i 0))) ⌝ }
+    ensures { λ r. ⌜ Knows (now (lines .entry)) n (now (boxes .entry)) (now (binds .entry)) (now (hold .entry)) (now (stand .entry)) nstand (now (arrivals .entry)) (now (known .exit)) ⌝ }
 {
+    let q = arrivals[i];
     if has_room(lines, count, a, q) {
-        return door::passes(lines, n, boxes, binds, hold, stand, nstand, d, l, q);
+        return admitted(
+            known,
+            lines,
+            n,
+            boxes,
+            binds,
+            hold,
+            stand,
+            nstand,
+            arrivals,
+            narrivals,
+            l,
+            d,
+            i,
+        );
     }
     false
 }
 
 // Whether one of the arrivals does.
 fn some_guest(
+    known: &mut [u8; 8192],
     lines: &[u8; 2560],
     n: usize,
     boxes: &[u8; 1056],
@@ -122,15 +219,16 @@ fn some_guest(
     a: u8,
     d: u8,
 ) -> bool
-    requires { ⌜ Admits (now lines) n (now stand) nstand (now arrivals) narrivals × (th .site .0 < 32) × (d < 32) × (a < n) × (count ≤ 64) ⌝ }
+    requires { ⌜ Admits (now lines) n (now stand) nstand (now arrivals) narrivals × Knows (now lines) n (now boxes) (now binds) (now hold) (now stand) nstand (now arrivals) (now known) × (th .site .0 < 32) × (d < 32) × (a < n) × (count ≤ 64) ⌝ }
     ensures { λ r. ⌜ ((st : Spec.State) → Guests st (now (lines .entry)) n (now (boxes .entry)) (now (binds .entry)) (now (hold .entry)) (now (stand .entry)) nstand (now (arrivals .entry)) narrivals → length (st .threads) ≡ count → r ≡ any (welcome st (threadView th) a d) (st .arrivals)) ⌝ }
+    ensures { λ r. ⌜ Knows (now (lines .entry)) n (now (boxes .entry)) (now (binds .entry)) (now (hold .entry)) (now (stand .entry)) nstand (now (arrivals .entry)) (now (known .exit)) ⌝ }
 {
     let here = th.site;
     let l = here.0;
     let mut i: usize = 0;
     while i < narrivals {
-        let q = arrivals[i];
         if welcomes(
+            known,
             lines,
             n,
             boxes,
@@ -138,11 +236,13 @@ fn some_guest(
             hold,
             stand,
             nstand,
+            arrivals,
+            narrivals,
             count,
             a,
             l,
             d,
-            q,
+            i,
         ) {
             return true;
         }
@@ -153,6 +253,7 @@ fn some_guest(
 
 // Whether thread th, one of `count`, can make a bare step.
 fn can_step<'a>(
+    known: &mut [u8; 8192],
     lines: &'a [u8; 2560],
     n: usize,
     boxes: &'a [u8; 1056],
@@ -167,8 +268,9 @@ fn can_step<'a>(
     count: usize,
     th: Thread,
 ) -> bool
-    requires { ⌜ Plannable (now lines) n (now stand) nstand (now arrivals) narrivals (now tuples) ntuples th × (count ≤ 64) ⌝ }
+    requires { ⌜ Plannable (now lines) n (now stand) nstand (now arrivals) narrivals (now tuples) ntuples th × Knows (now lines) n (now boxes) (now binds) (now hold) (now stand) nstand (now arrivals) (now known) × (count ≤ 64) ⌝ }
     ensures { λ r. ⌜ ((st : Spec.State) → Tables st (now (lines .entry)) n (now (boxes .entry)) (now (binds .entry)) (now (hold .entry)) (now (stand .entry)) nstand (now (arrivals .entry)) narrivals (now (tuples .entry)) ntuples → length (st .threads) ≡ count → r ≡ runsOf st (threadView th) (lineAt (st .lines) (th .line))) ⌝ }
+    ensures { λ r. ⌜ Knows (now (lines .entry)) n (now (boxes .entry)) (now (binds .entry)) (now (hold .entry)) (now (stand .entry)) nstand (now (arrivals .entry)) (now (known .exit)) ⌝ }
 {
     let q = th.line;
     match tables::action_at(lines, q) {
@@ -197,6 +299,7 @@ fn can_step<'a>(
             sandbox: _,
         } => has_room(lines, count, next, body),
         Action::Accept { next, sandbox } => some_guest(
+            known,
             lines,
             n,
             boxes,
@@ -233,10 +336,12 @@ fn first_ready<'a>(
     requires { ⌜ ((k : ℕ) → k < count → Plannable (now lines) n (now stand) nstand (now arrivals) narrivals (now tuples) ntuples (getD items k noThread)) × (count ≤ 64) ⌝ }
     ensures { λ r. ⌜ ((st : Spec.State) → Tables st (now (lines .entry)) n (now (boxes .entry)) (now (binds .entry)) (now (hold .entry)) (now (stand .entry)) nstand (now (arrivals .entry)) narrivals (now (tuples .entry)) ntuples → st .threads ≡ threadsView count items → Invariant st → readyView r ≡ readyOf st) ⌝ }
 {
+    let mut known = [0u8; 8192];
     let mut k: usize = 0;
     while k < count {
         let th = items[k];
         if can_step(
+            &mut known,
             lines,
             n,
             boxes,

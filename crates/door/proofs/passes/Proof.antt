@@ -1,67 +1,34 @@
-use mathlib.Core.Path.{refl, sym, _∙_}
-use native.Mathlib.Omega.{arith}
-use Rattle.klaim.specs.Report.{addsNothing}
+use mathlib.Core.Path.{sym, _∙_}
+use Rattle.klaim.specs.Process.{tree}
 use Rattle.tables.specs.View.{linesView}
-use Rattle.tables.proofs.Lines.{length-view}
-use Rattle.door.proofs.Laws.{door-broken, door-tests, and-front, and-stop}
+use Rattle.door.proofs.Laws.{and-front, and-stop, door-parts}
 use borrow.Author.Needs.{needs}
 use Rattle.door.proofs.passes.Statement.{statement}
 use Rattle.door.proofs.passes.Tie as tie
 use Rattle.door.proofs.passes.Reads as reads
 use Rattle.door.proofs.passes.Lts as lts
-use Rattle.broken.proofs.first_broken.Reads as first-broken-reads
-use Rattle.door.proofs.uses_within.Reads as uses-within-reads
-use Rattle.flow.proofs.use_map.Reads as use-map-reads
-use Rattle.report.proofs.adds_nothing.Reads as adds-nothing-reads
-use Rattle.sets.proofs.single.Reads as single-reads
+use Rattle.door.proofs.sound.Reads as sound-reads
+use Rattle.door.proofs.uses_fit.Reads as uses-fit-reads
 
--- src/lib.rt:47:9
-single-requires : tie.Need-single-requires
-single-requires c κs = search needs
+-- src/lib.rt:90:8
+uses-fit-requires : tie.Need-uses-fit-requires
+uses-fit-requires c κs = search needs
 
--- src/lib.rt:48:9
-first-broken-requires : tie.Need-first-broken-requires
-first-broken-requires c κs = let s = c .before in (s .pre .0, (s .pre .2, s .pre .3))
+-- src/lib.rt:91:9
+sound-requires : tie.Need-sound-requires
+sound-requires c κs = search needs
 
--- src/lib.rt:50:9
+-- src/lib.rt:91:9
 returns : tie.Need-returns
 returns c =
     let s = c .before .before .before in
-    λ N E b v h z. door-broken N E (s .args .d) (s .args .l) (linesView (s .args .n) (s .args .lines .now)) (s .args .q) (c .before .before .single .ensures) (c .before .first-broken .ensures N E b v h z) (c .if1 .taken)
+    λ N E b v h z. c .sound .ensures N E b v h z ∙ and-front (sym (c .before .before .uses-fit .ensures N E b v) ∙ c .before .if1 .taken) ∙ door-parts N E (s .args .d) (s .args .l) (tree (linesView (s .args .n) (s .args .lines .now)) (s .args .q))
 
--- src/lib.rt:52:9
-use-map-requires : tie.Need-use-map-requires
-use-map-requires c κs = c .before .before .before .pre .0
-
--- src/lib.rt:53:8
-uses-within-requires : tie.Need-uses-within-requires
-uses-within-requires c κs = search needs
-
--- src/lib.rt:54:9
-adds-nothing-requires : tie.Need-adds-nothing-requires
-adds-nothing-requires c κs = c .before .before .before .before .before .before .pre .0
-
--- src/lib.rt:54:9
+-- src/lib.rt:75:1
 returns-2 : tie.Need-returns-2
 returns-2 c =
-    let s = c .before .before .before .before .before .before .before in
-    λ N E b v h z. and-front (c .before .if2 .taken) ∙ door-tests N E (s .args .d) (s .args .l) (linesView (s .args .n) (s .args .lines .now)) (s .args .q) (c .before .before .before .before .before .before .single .ensures) (c .before .before .before .before .before .first-broken .ensures N E b v h z) (omega (arith, length-view (s .args .n) (s .args .lines .now), s .pre .1)) (c .before .before .before .before .if1 .left) (c .before .before .before .use-map .ensures N E b v) (c .before .before .uses-within .ensures N b) (c .adds-nothing .ensures N E b v)
-
--- src/lib.rt:32:1
-returns-3 : tie.Need-returns-3
-returns-3 c =
-    let s = c .before .before .before .before .before .before in
-    λ N E b v h z. and-stop _ (c .if2 .left) ∙ door-tests N E (s .args .d) (s .args .l) (linesView (s .args .n) (s .args .lines .now)) (s .args .q) (c .before .before .before .before .before .single .ensures) (c .before .before .before .before .first-broken .ensures N E b v h z) (omega (arith, length-view (s .args .n) (s .args .lines .now), s .pre .1)) (c .before .before .before .if1 .left) (c .before .before .use-map .ensures N E b v) (c .before .uses-within .ensures N b) (refl)
+    let s = c .before .before in
+    λ N E b v h z. and-stop _ (sym (c .before .uses-fit .ensures N E b v) ∙ c .if1 .left) ∙ door-parts N E (s .args .d) (s .args .l) (tree (linesView (s .args .n) (s .args .lines .now)) (s .args .q))
 
 pub passes-spec : {M : Type 1} → statement M
-passes-spec =
-    tie.close
-    (tie.spec
-    single-requires
-    first-broken-requires
-    returns
-    use-map-requires
-    uses-within-requires
-    adds-nothing-requires
-    returns-2
-    returns-3)
+passes-spec = tie.close (tie.spec uses-fit-requires sound-requires returns returns-2)

@@ -79,17 +79,17 @@ enum-known-next-4 c = search needs
 -- src/lib.rt:186:45
 some-guest-requires : tie.Need-some-guest-requires
 some-guest-requires c κs =
-    let s = c .before .before .before .before in
+    let s = c .before .before .before .before .before in
     let p = s .pre .0 in
-    let nx = next (thread-form p) (c .before .before .before .action-at .ensures) (c .before .next4 .given .1) in
-    (admits p, p .threadPlaced, nx .1, nx .0 .form .present, s .pre .1)
+    let nx = next (thread-form p) (c .before .before .before .before .action-at .ensures) (c .before .before .next4 .given .1) in
+    (admits p, s .pre .1, p .threadPlaced, nx .1, nx .0 .form .present, s .pre .2)
 
 -- src/lib.rt:142:1
 returns : tie.Need-returns
 unfolding runs actionLine
 returns c =
     let p = c .before .before .before .pre .0 in
-    λ st w k. runs-at p w (c .before .before .action-at .ensures) (c .enum-told .given .1) refl
+    ((λ st w k. runs-at p w (c .before .before .action-at .ensures) (c .enum-told .given .1) refl), c .before .before .before .pre .1)
 
 -- src/lib.rt:142:1
 returns-2 : tie.Need-returns-2
@@ -100,7 +100,7 @@ returns-2 c =
     let d = c .before .before .before .before .action-at .ensures in
     let e = c .before .before .next .given .1 in
     let nx = next (thread-form p) d e in
-    λ st w k. runs-at p w d e (room-of w k _ _ (c .has-room .ensures (s .args .n) (nx .0 .form .present) (nx .1 .form .present)))
+    ((λ st w k. runs-at p w d e (room-of w k _ _ (c .has-room .ensures (s .args .n) (nx .0 .form .present) (nx .1 .form .present)))), s .pre .1)
 
 -- src/lib.rt:142:1
 returns-3 : tie.Need-returns-3
@@ -111,14 +111,14 @@ returns-3 c =
     let d = c .before .before .before .before .action-at .ensures in
     let e = c .before .before .next2 .given .1 in
     let nx = next (thread-form p) d e in
-    λ st w k. runs-at p w d e (room-of w k _ _ (c .has-room2 .ensures (s .args .n) (p .threadPresent) (nx .0 .form .present)))
+    ((λ st w k. runs-at p w d e (room-of w k _ _ (c .has-room2 .ensures (s .args .n) (p .threadPresent) (nx .0 .form .present)))), s .pre .1)
 
 -- src/lib.rt:142:1
 returns-4 : tie.Need-returns-4
 unfolding runs actionLine
 returns-4 c =
     let p = c .before .before .before .pre .0 in
-    λ st w k. runs-at p w (c .before .before .action-at .ensures) (c .enum-told2 .given .1) (more-of w)
+    ((λ st w k. runs-at p w (c .before .before .action-at .ensures) (c .enum-told2 .given .1) (more-of w)), c .before .before .before .pre .1)
 
 -- src/lib.rt:142:1
 returns-5 : tie.Need-returns-5
@@ -128,7 +128,7 @@ returns-5 c =
     let p = s .pre .0 in
     let d = c .before .before .before .before .action-at .ensures in
     let e = c .before .before .target .given .1 in
-    λ st w k. runs-at p w d e (tuples-of w _ (c .some-agrees .ensures))
+    ((λ st w k. runs-at p w d e (tuples-of w _ (c .some-agrees .ensures))), s .pre .1)
 
 -- src/lib.rt:142:1
 returns-6 : tie.Need-returns-6
@@ -138,7 +138,7 @@ returns-6 c =
     let p = s .pre .0 in
     let d = c .before .before .before .before .action-at .ensures in
     let e = c .before .before .target2 .given .1 in
-    λ st w k. runs-at p w d e (tuples-of w _ (c .some-agrees2 .ensures))
+    ((λ st w k. runs-at p w d e (tuples-of w _ (c .some-agrees2 .ensures))), s .pre .1)
 
 -- src/lib.rt:142:1
 returns-7 : tie.Need-returns-7
@@ -149,17 +149,16 @@ returns-7 c =
     let d = c .before .before .before .before .action-at .ensures in
     let e = c .before .before .next3 .given .1 in
     let nx = next (thread-form p) d e in
-    λ st w k. runs-at p w d e (room-of w k _ _ (c .has-room3 .ensures (s .args .n) (nx .0 .form .present) (nx .2 .form .present)))
+    ((λ st w k. runs-at p w d e (room-of w k _ _ (c .has-room3 .ensures (s .args .n) (nx .0 .form .present) (nx .2 .form .present)))), s .pre .1)
 
 -- src/lib.rt:142:1
 returns-8 : tie.Need-returns-8
 unfolding runs actionLine
 returns-8 c =
-    let s = c .before .before .before .before .before in
-    let p = s .pre .0 in
-    let d = c .before .before .before .before .action-at .ensures in
-    let e = c .before .before .next4 .given .1 in
-    λ st w k. runs-at p w d e (c .some-guest .ensures st (guests w) k)
+    let p = c .before .before .before .before .before .before .pre .0 in
+    let d = c .before .before .before .before .before .action-at .ensures in
+    let e = c .before .before .before .next4 .given .1 in
+    ((λ st w k. runs-at p w d e (c .some-guest .ensures .0 st (guests w) k)), c .some-guest .ensures .1)
 
 pub can-step-spec : {M : Type 1} → statement M
 can-step-spec =

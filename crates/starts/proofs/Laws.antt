@@ -1,0 +1,158 @@
+-- Laws of the threads that a start makes, and of the state that it gives.
+-- Assumes nothing.
+use mathlib.Core.Path.{_≡_, refl, sym, ap, _∙_}
+use mathlib.Core.Bool.{Bool, true, false, cond}
+use mathlib.Core.List.{List, [], _∷_, _++_}
+use Prim.Native.Nat.{ℕ, _+_, _*_, _<_, _≤_}
+use native.Mathlib.Omega.{arith}
+use native.Mathlib.Nat.{add-zero}
+use native.Mathlib.Numerals.{add-one}
+use borrow.Author.Tests.{eq-eqb, ne-eqb}
+use lib.Dec.{eqb}
+use lib.ListN.{getD}
+use Rattle.sets.specs.Lists.{concat, _∪_, table, tableFrom}
+use Rattle.sets.proofs.Lists.{cond-at, All-in}
+use Rattle.sets.proofs.Tables.{length-table, table-in, table-snoc}
+use Rattle.klaim.specs.declared.Loc.{Loc}
+use Rattle.klaim.specs.declared.Site.{Site}
+use Rattle.klaim.specs.Process.{Line, lineAt}
+use Rattle.klaim.specs.Process as Process
+use Rattle.klaim.specs.Net.{Net}
+use Rattle.klaim.specs.Reader.{Answer, refused, gives, andThen, World, readBoth}
+use Rattle.klaim.specs.State as Spec
+use Rattle.klaim.specs.State.{isNil, settle, homePolicy, rootThread, begin, start}
+use Rattle.klaim.proofs.Reader.{NetOk, RootOk, both-read}
+use Rattle.klaim.proofs.Invariant.{start-gives}
+use Rattle.tables.specs.View.{netView, lineByte, lineBy, lineOf, linesView, rootAt, rootsView}
+use Rattle.tables.proofs.Lines.{line-view, length-view}
+use Rattle.threads.specs.View.{bindingsView, threadsView}
+use Rattle.threads.proofs.Laws.{bindings-none}
+use Rattle.worlds.specs.declared.WorldRead.{WorldRead}
+use Rattle.worlds.specs.World.{worldView, worldAnswer}
+use Rattle.state.specs.declared.State.{State}
+use Rattle.state.specs.View.{stateView}
+use Rattle.starts.specs.declared.Threads.{Threads}
+use Rattle.starts.specs.Started.{startView, Started, RootsIn, begunOf}
+
+-- a line of kind 0 is `nil`, and no other
+abbrev Other : Line → Type 0
+Other x = isNil x ≡ false
+
+cond-nil : (t : Bool) (x : Line) → Other x → isNil (cond t Process.Nil x) ≡ t
+unfolding isNil
+cond-nil true x h = refl
+cond-nil false x h = h
+
+by-nil : (j a b k : ℕ) (g : Loc) (fs : List ℕ) → isNil (lineBy j a b k g fs) ≡ eqb j 0
+unfolding lineBy isNil
+by-nil j a b k g fs =
+    cond-nil (eqb j 0) _
+    (cond-at Other (eqb j 1) (λ t. refl) (λ t.
+    cond-at Other (eqb j 2) (λ t. refl) (λ t.
+    cond-at Other (eqb j 3) (λ t. refl) (λ t.
+    cond-at Other (eqb j 4) (λ t. refl) (λ t.
+    cond-at Other (eqb j 5) (λ t. refl) (λ t.
+    cond-at Other (eqb j 6) (λ t. refl) (λ t. refl)))))))
+
+pub nil-test : (n : ℕ) (bs : List ℕ) (q : ℕ) → q < n → eqb (getD bs (10 * q) 0) 0 ≡ isNil (lineAt (linesView n bs) q)
+unfolding lineOf
+nil-test n bs q h =
+    sym (ap isNil (line-view n bs q h)
+    ∙ by-nil (lineByte bs q 0) _ _ _ _ _
+    ∙ ap (λ (i : ℕ). eqb (getD bs i 0) 0) (add-zero (10 * q)))
+
+-- the thread of a root
+pub root-view : (N : Net) (s q : ℕ) (ss : List Site) {p : List ℕ} → p ≡ homePolicy N s → record { site = s; policy = p; line = q; bindings = bindingsView 0 ss } ≡ rootThread N (record { site = s; line = q })
+unfolding rootThread
+root-view N s q ss e = rw (e, bindings-none ss)
+
+-- a thread on `nil`, and one that is not
+module _ (ls : List Line) (th : Spec.Thread) (old : List Spec.Thread) {t : Bool} (e : t ≡ isNil (lineAt ls (th .line))) where
+  append-none : (xs : List Spec.Thread) → xs ≡ xs ++ []
+  append-none [] = refl
+  append-none (x ∷ xs) = ap (λ (l : List Spec.Thread). x ∷ l) (append-none xs)
+
+  pub settle-none : t ≡ true → old ≡ old ++ settle ls th
+  unfolding settle
+  settle-none h = append-none old ∙ ap (λ (b : Bool). old ++ cond b [] (th ∷ [])) (sym h ∙ e)
+
+  pub settle-one : t ≡ false → {new : List Spec.Thread} → new ≡ old ++ (th ∷ []) → new ≡ old ++ settle ls th
+  unfolding settle
+  settle-one h q = q ∙ ap (λ (b : Bool). old ++ cond b [] (th ∷ [])) (sym h ∙ e)
+
+-- the union over a list with one element more
+module _ {A B : Type 0} (f : A → List B) where
+  union-none : (xs : List B) → xs ∪ [] ≡ xs
+  unfolding _∪_
+  union-none [] = refl
+  union-none (x ∷ xs) = ap (λ (l : List B). x ∷ l) (union-none xs)
+
+  union-more : (xs ys zs : List B) → xs ∪ (ys ++ zs) ≡ (xs ∪ ys) ++ zs
+  unfolding _∪_
+  union-more [] ys zs = refl
+  union-more (x ∷ xs) ys zs = ap (λ (l : List B). x ∷ l) (union-more xs ys zs)
+
+  concat-snoc : (xs : List A) (x : A) → concat f (xs ++ (x ∷ [])) ≡ concat f xs ++ f x
+  unfolding concat
+  concat-snoc [] x = union-none (f x)
+  concat-snoc (y ∷ xs) x = ap (λ (l : List B). f y ∪ l) (concat-snoc xs x) ∙ union-more (f y) (concat f xs) (f x)
+
+-- the threads of the first roots
+module _ (N : Net) (bs : List ℕ) where
+  pub roots-none : [] ≡ concat (λ x. settle (N .lines) (rootThread N x)) (rootsView 0 bs)
+  unfolding rootsView concat table tableFrom
+  roots-none = refl
+
+  pub roots-more : (i : ℕ) {th : Spec.Thread} {old new : List Spec.Thread} {ls : List Line} → N .lines ≡ ls → th ≡ rootThread N (rootAt bs i) → old ≡ concat (λ x. settle (N .lines) (rootThread N x)) (rootsView i bs) → new ≡ old ++ settle ls th → new ≡ concat (λ x. settle (N .lines) (rootThread N x)) (rootsView (i + 1) bs)
+  unfolding rootsView
+  roots-more i {th} {old} {new} {ls} l t o n =
+      let both : old ++ settle ls th ≡ concat (λ x. settle (N .lines) (rootThread N x)) (rootsView i bs) ++ settle (N .lines) (rootThread N (rootAt bs i)) = cc in
+      rw add-one
+      (n
+      ∙ both
+      ∙ sym (concat-snoc (λ x. settle (N .lines) (rootThread N x)) (rootsView i bs) (rootAt bs i))
+      ∙ ap (concat (λ x. settle (N .lines) (rootThread N x))) (sym (table-snoc i (rootAt bs))))
+
+-- the state that begins, or the refusal
+module _ (w : WorldRead) (ts : Threads) where
+  pub begun-refused : (w .number ≡ 0 → ⊥) → startView (begunOf (w .net) (w .estimate) ts (w .number) (w .row)) ≡ andThen (worldAnswer w) (λ x. gives (begin x))
+  unfolding startView begunOf worldAnswer andThen
+  begun-refused h = rw (ne-eqb (w .number) 0 h)
+
+  pub begun-gives : w .number ≡ 0 → threadsView (ts .count) (ts .items) ≡ concat (λ x. settle (netView (w .net) .lines) (rootThread (netView (w .net)) x)) (rootsView (w .net .nroots) (w .net .roots)) → startView (begunOf (w .net) (w .estimate) ts 0 0) ≡ andThen (worldAnswer w) (λ x. gives (begin x))
+  unfolding startView begunOf worldAnswer worldView andThen begin stateView netView
+  begun-gives z e = rw (z, e)
+
+-- what was read
+module _ (w : WorldRead) (net estimate : List ℕ) (e : worldAnswer w ≡ readBoth net estimate) where
+  world-read : w .number ≡ 0 → readBoth net estimate ≡ gives (worldView w)
+  unfolding worldAnswer
+  world-read z = sym e ∙ ap (λ (b : Bool). cond b (gives (worldView w)) (refused (w .number) (w .row))) (eq-eqb (w .number) 0 z)
+
+  net-ok : w .number ≡ 0 → NetOk (netView (w .net))
+  unfolding worldView
+  net-ok z = both-read net estimate (worldView w) (world-read z) .0
+
+  pub roots-in : w .number ≡ 0 → RootsIn (w .net .roots) (w .net .nroots) (w .net .nlines)
+  unfolding netView rootsView rootAt
+  roots-in z =
+      let ok = net-ok z in
+      let root : (i : ℕ) → i < w .net .nroots → RootOk (netView (w .net)) (rootAt (w .net .roots) i) = λ i h. All-in (ok .roots-ok) (table-in (w .net .nroots) (rootAt (w .net .roots)) i h) in
+      record {
+        few = omega (arith, ok .roots-few, length-table (w .net .nroots) (rootAt (w .net .roots)));
+        placed = λ i h. omega (arith, root i h .placed, ok .sites-few);
+        present = λ i h. omega (arith, root i h .present, length-view (w .net .nlines) (w .net .lines));
+      }
+
+  pub started : (st : State) → startView st ≡ andThen (worldAnswer w) (λ x. gives (begin x)) → st .nthreads ≤ 64 → st .narrivals ≡ 0 → Started net estimate st
+  unfolding start startView
+  started st q few none =
+      let r = q ∙ ap (λ (a : Answer World). andThen a (λ x. gives (begin x))) e in
+      record {
+        result = r;
+        fits = λ z. record {
+          threads-few = few;
+          arrivals-few = omega arith;
+          invariant = start-gives net estimate (stateView st) (sym r ∙ ap (λ (b : Bool). cond b (gives (stateView st)) (refused (st .told .number) (st .told .row))) (eq-eqb (st .told .number) 0 z));
+        };
+      }

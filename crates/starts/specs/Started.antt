@@ -1,0 +1,47 @@
+-- What a start comes to.
+-- Assumes nothing.
+use mathlib.Core.Path.{_≡_}
+use mathlib.Core.Bool.{cond}
+use mathlib.Core.List.{List}
+use Prim.Native.Nat.{ℕ, _+_, _*_, _<_, _≤_}
+use lib.Dec.{eqb}
+use lib.ListN.{getD, replicate}
+use Rattle.klaim.specs.Reader.{Answer, refused, gives}
+use Rattle.klaim.specs.State as Spec
+use Rattle.tables.specs.declared.Net.{Net}
+use Rattle.tables.specs.declared.Estimate.{Estimate}
+use Rattle.state.specs.declared.State.{State}
+use Rattle.state.specs.View.{stateView}
+use Rattle.state.specs.Fits.{Fits}
+use Rattle.starts.specs.declared.Threads.{Threads}
+
+-- the state, or the number and the row of the refusal
+unfoldable pub startView : State → Answer Spec.State
+startView st = cond (eqb (st .told .number) 0) (gives (stateView st)) (refused (st .told .number) (st .told .row))
+
+-- the engine began: the state or the refusal is that of document 01, and a state has the invariant
+pub record Started (net estimate : List ℕ) (st : State) : Type 0 where
+  pub result : startView st ≡ Spec.start net estimate
+  pub fits : st .told .number ≡ 0 → Fits st
+
+-- each of n roots stands at one of 32 sites, and on one of the lines
+pub record RootsIn (roots : List ℕ) (n lines : ℕ) : Type 0 where
+  pub few : n ≤ 64
+  pub placed : (i : ℕ) → i < n → getD roots (2 * i) 0 < 32
+  pub present : (i : ℕ) → i < n → getD roots (2 * i + 1) 0 < lines
+
+-- a state of these threads, nothing brought; `number` and `row` are those of a refusal
+unfoldable pub begunOf : Net → Estimate → Threads → ℕ → ℕ → State
+begunOf N E ts number row = record {
+  net = N;
+  estimate = E;
+  lines = N .lines;
+  nlines = N .nlines;
+  arrivals = replicate 256 0;
+  narrivals = 0;
+  threads = ts .items;
+  nthreads = ts .count;
+  tuples = N .tuples;
+  ntuples = N .ntuples;
+  told = record { number = number; row = row; event = 1; site = 0; target = 0; right = 0 };
+}
