@@ -1,0 +1,36 @@
+use borrow.Author.Needs.{needs}
+use Rattle.scripts.proofs.carry_on.Statement.{statement}
+use Rattle.scripts.proofs.carry_on.Tie as tie
+
+say-refused-requires : tie.Need-say-refused-requires
+say-refused-requires c κs = search needs
+
+returns : tie.Need-returns
+returns c = search needs
+
+slice-aggregate-say : tie.Need-slice-aggregate-say
+slice-aggregate-say c = search needs
+
+say-requires : tie.Need-say-requires
+say-requires c κs = search needs
+
+run-all-requires : tie.Need-run-all-requires
+run-all-requires c κs = c .before .before .before .before .before .before .pre (c .before .before .if1 .left)
+
+say-state-requires : tie.Need-say-state-requires
+say-state-requires c κs = search needs
+
+returns-2 : tie.Need-returns-2
+returns-2 c = search needs
+
+pub carry-on-spec : {M : Type 1} → statement M
+carry-on-spec =
+    tie.close
+    (tie.spec
+    say-refused-requires
+    returns
+    slice-aggregate-say
+    say-requires
+    run-all-requires
+    say-state-requires
+    returns-2)

@@ -1,0 +1,24 @@
+use borrow.Author.Needs.{needs}
+use Rattle.scripts.proofs.Front.{front-long}
+use Rattle.scripts.proofs.fetch.Statement.{statement}
+use Rattle.scripts.proofs.fetch.Tie as tie
+
+before-requires : tie.Need-before-requires
+before-requires c κs = search needs
+
+slice-aggregate-bring : tie.Need-slice-aggregate-bring
+slice-aggregate-bring c = front-long _ (c .before .before .before .args .rest .now) (c .before .before2 .ensures)
+
+bring-requires : tie.Need-bring-requires
+bring-requires c κs = search needs
+
+say-brought-requires : tie.Need-say-brought-requires
+say-brought-requires c κs = search needs
+
+returns : tie.Need-returns
+returns c = search needs
+
+pub fetch-spec : {M : Type 1} → statement M
+fetch-spec =
+    tie.close
+    (tie.spec before-requires slice-aggregate-bring bring-requires say-brought-requires returns)
