@@ -1,71 +1,19 @@
--- Laws of a loop down the sites of a set.
+-- Which sites a set has.
 -- Assumes nothing.
 use mathlib.Core.Path.{_≡_, refl, sym, ap, _∙_}
-use mathlib.Core.Bool.{Bool, true, false, not, cond}
-use mathlib.Core.List.{List, []}
-use Prim.Native.Nat.{ℕ, zero, suc, _-_, _^_, _<_, _≤_}
+use mathlib.Core.Bool.{Bool, true, false, not, false≢true}
+use Prim.Native.Nat.{ℕ, zero, suc, _^_, _<_, _≤_}
 use native.Mathlib.Omega.{arith}
 use native.Mathlib.Decide.{decLt}
 use native.Mathlib.Nat.{div-one, div-eq-of-lt, mul-mod-left, mul-div-cancel, pow-suc, lt-of-lt-of-le}
-use lib.Bits.{or-zero-l}
 use lib.Dec.{eqb, eqb·zero-suc, eqb·suc-zero, eqb·suc-suc}
 use lib.Pow.{pow-mono}
-use borrow.Author.Tests.{not-true}
-use Rattle.sets.specs.Lists.{_∪_, any, only, keep, tableFrom, table, below}
-use Rattle.sets.specs.Bits.{everyRight, has, mem, sites, join, meet, grant, joins, meets}
-use Rattle.sets.proofs.Lists.{all-at, any-at, none-all}
+use borrow.Author.Tests.{not-true, eq-eqb}
+use Rattle.sets.specs.Lists.{_&_, any, below}
+use Rattle.sets.specs.Bits.{has, mem}
+use Rattle.sets.proofs.Lists.{iff, and-l, and-r, not-no, not-yes, eqb-eq, all-at, any-at, any-none, none-all}
 use Rattle.sets.proofs.Tables.{below-in, in-below}
 use Rattle.sets.proofs.Bits.{has-half, has-none, same-bits}
-
--- the sites of a set, from site l upwards
-unfoldable pub sitesFrom : ℕ → ℕ → List ℕ
-sitesFrom m l = keep (λ s. mem s m) (tableFrom (32 - l) l (λ i. i))
-
-pub from-none : (m : ℕ) → sitesFrom m 32 ≡ []
-unfolding sitesFrom keep tableFrom
-from-none m = refl
-
-pub from-all : (m : ℕ) → sitesFrom m 0 ≡ sites m
-unfolding sitesFrom sites below table
-from-all m = refl
-
-from-down : (m l : ℕ) → 0 < l → l ≤ 32 → sitesFrom m (l - 1) ≡ only (mem (l - 1) m) (l - 1) ∪ sitesFrom m l
-unfolding sitesFrom keep tableFrom
-from-down m l p q =
-    ap (λ (n : ℕ). keep (λ s. mem s m) (tableFrom n (l - 1) (λ i. i))) left
-    ∙ ap (λ (k : ℕ). only (mem (l - 1) m) (l - 1) ∪ keep (λ s. mem s m) (tableFrom (32 - l) k (λ i. i))) next
-  where
-    left : 32 - (l - 1) ≡ suc (32 - l)
-    left = omega arith
-
-    next : suc (l - 1) ≡ l
-    next = omega arith
-
-module _ (f : ℕ → ℕ) where
-  joins-only : (b : Bool) (x : ℕ) (ys : List ℕ) → joins f (only b x ∪ ys) ≡ join (grant b (f x)) (joins f ys)
-  unfolding joins only _∪_ grant join
-  joins-only true x ys = refl
-  joins-only false x ys = sym (or-zero-l (joins f ys))
-
-  meets-only : (b : Bool) (x : ℕ) (ys : List ℕ) → meets f (only b x ∪ ys) ≡ cond b (meet (f x) (meets f ys)) (meets f ys)
-  unfolding meets only _∪_
-  meets-only true x ys = refl
-  meets-only false x ys = refl
-
-  module _ (m : ℕ) where
-    pub joins-none : joins f (sitesFrom m 32) ≡ 0
-    unfolding joins
-    joins-none = ap (joins f) (from-none m)
-
-    pub meets-none : meets f (sitesFrom m 32) ≡ everyRight
-    unfolding meets
-    meets-none = ap (meets f) (from-none m)
-
-    pub joins-down : (l : ℕ) → 0 < l → l ≤ 32 → joins f (sitesFrom m (l - 1)) ≡ join (grant (mem (l - 1) m) (f (l - 1))) (joins f (sitesFrom m l))
-    joins-down l p q = ap (joins f) (from-down m l p q) ∙ joins-only (mem (l - 1) m) (l - 1) (sitesFrom m l)
-
-    pub meets-down : (l : ℕ) → 0 < l → l ≤ 32 → meets f (sitesFrom m (l - 1)) ≡ cond (mem (l - 1) m) (meet (f (l - 1)) (meets f (sitesFrom m l))) (meets f (sitesFrom m l))
-    meets-down l p q = ap (meets f) (from-down m l p q) ∙ meets-only (mem (l - 1) m) (l - 1) (sitesFrom m l)
 
 -- the set of one site
 pub mem-single : (s n : ℕ) → mem s (2 ^ n) ≡ eqb n s
@@ -90,3 +38,25 @@ some-site m h z = go (any (λ s. mem s m) (below 32)) refl
     go : (b : Bool) → any (λ s. mem s m) (below 32) ≡ b → (s : ℕ) × (s < 32) × (mem s m ≡ true)
     go true e = let r = any-at (λ s. mem s m) (below 32) e in (r .0, in-below 32 (r .0) (r .1), r .2)
     go false e = absurd (z (same-bits m 0 (λ n. none e n (decLt n 32) ∙ sym (has-none n))))
+
+and-no : {a b : Bool} → a ≡ true → (a & b) ≡ false → b ≡ false
+unfolding _&_
+and-no {a} {b} e q = rw e at q
+
+-- a set of sites that is neither 0 nor the set of t alone has another site
+pub other-site : (m t : ℕ) → m < 2 ^ 32 → (m ≡ 0 → ⊥) → (m ≡ 2 ^ t → ⊥) → (s : ℕ) × (s < 32) × (mem s m ≡ true) × (t ≡ s → ⊥)
+other-site m t h z o = go (any (λ s. mem s m & not (eqb t s)) (below 32)) refl
+  where
+    none : any (λ s. mem s m & not (eqb t s)) (below 32) ≡ false → (s : ℕ) → s < 32 → mem s m ≡ true → eqb t s ≡ true
+    none e s l y = not-no (eqb t s) (and-no y (any-none (λ s. mem s m & not (eqb t s)) e (below-in 32 s l)))
+
+    pick : (n : ℕ) → mem n m ≡ true → Dec (n < 32) → n < 32
+    pick n y (yes l) = l
+    pick n y (no l) = absurd (false≢true (sym (none-high m n h (omega arith)) ∙ y))
+
+    go : (b : Bool) → any (λ s. mem s m & not (eqb t s)) (below 32) ≡ b → (s : ℕ) × (s < 32) × (mem s m ≡ true) × (t ≡ s → ⊥)
+    go true e = let r = any-at (λ s. mem s m & not (eqb t s)) (below 32) e in (r .0, in-below 32 (r .0) (r .1), and-l _ _ (r .2), λ q. false≢true (sym (not-yes (eqb t (r .0)) (and-r _ _ (r .2))) ∙ eq-eqb t (r .0) q))
+    go false e =
+        let a = some-site m h z in
+        let at : t ≡ a .0 = eqb-eq (none e (a .0) (a .1) (a .2)) in
+        absurd (o (same-bits m (2 ^ t) (λ n. iff (λ y. mem-single n t ∙ none e n (pick n y (decLt n 32)) y) (λ y. ap (λ (s : ℕ). mem s m) (sym (eqb-eq (sym (mem-single n t) ∙ y)) ∙ at) ∙ a .2))))

@@ -1,12 +1,11 @@
 //! Reach and use map: what a process may touch, by the estimate.
 ghost use mathlib.Core.Path.{_≡_};
-ghost use mathlib.Core.Bool.{cond};
 ghost use Prim.Native.Nat.{_<_};
 ghost use lib.ListN.{getD};
 ghost use Rattle.sets.specs.Lists.{table};
-ghost use Rattle.sets.specs.Bits.{acceptBit, mem, sites, join, meet, grant, joins};
+ghost use Rattle.sets.specs.Bits.{acceptBit, mem, sites, join, grant, joins};
 ghost use Rattle.klaim.specs.Process.{tree};
-ghost use Rattle.klaim.specs.Net.{Net, Estimate, boxAt};
+ghost use Rattle.klaim.specs.Net.{Net, Estimate, box, boxAt};
 ghost use Rattle.klaim.specs.Analysis.{reach as reachOf};
 ghost use Rattle.klaim.specs.Report.{sure, uses};
 ghost use Rattle.tables.specs.View.{linesView, LowLoc, InForm};
@@ -47,44 +46,41 @@ pub fn box_at(boxes: &[u8; 1056], k: u8, l: u8, t: u8) -> u8
     boxes[at]
 }
 
-// What sandbox k gives on site t, evaluated at any of the places.
+// Sandbox k towards t, at any other site.
+fn box_of(boxes: &[u8; 1056], k: u8, t: u8) -> u8
+    requires { ⌜ (k < 32) × (t < 32) ⌝ }
+    ensures { λ r. ⌜ ((N : Net) → N .boxes ≡ now (boxes .entry) → r ≡ box N k t) ⌝ }
+{
+    let at = ROW * (k as usize) + (t as usize);
+    boxes[at]
+}
+
+// What sandbox k gives on site t, evaluated at any of the places: only where t is the one place does `self` count.
 pub fn box_over(boxes: &[u8; 1056], k: u8, places: u32, t: u8) -> u8
     requires { ⌜ (k < 32) × (t < 32) ⌝ }
     ensures { λ r. ⌜ ((N : Net) → N .boxes ≡ now (boxes .entry) → r ≡ joins (λ l. boxAt N k l t) (sites places)) ⌝ }
 {
-    let mut r: u8 = 0;
-    let mut l: u8 = UseMap::SITES as u8;
-    while 0 < l {
-        l -= 1;
-        r = sets::granted(places, l, box_at(boxes, k, l, t)) | r;
+    if places == 0 {
+        return 0;
     }
-    r
+    if places == sets::single(t) {
+        return box_at(boxes, k, t, t);
+    }
+    box_of(boxes, k, t)
 }
 
-// What both have, if the set has site n; else the old rights.
-fn narrowed(set: u32, n: u8, rights: u8, old: u8) -> u8
-    requires { ⌜ n < 32 ⌝ }
-    ensures { λ r. ⌜ r ≡ cond (mem n set) (meet rights old) old ⌝ }
-{
-    if sets::has_site(set, n) {
-        rights & old
-    } else {
-        old
-    }
-}
-
-// The rights towards t that sandbox k has evaluated at every site of a reach.
+// The rights towards t that sandbox k has evaluated at every site of a reach: `self` counts where t is one of them.
 pub fn box_sure(boxes: &[u8; 1056], k: u8, set: u32, t: u8) -> u8
     requires { ⌜ (k < 32) × (t < 32) ⌝ }
     ensures { λ r. ⌜ ((N : Net) → N .boxes ≡ now (boxes .entry) → r ≡ sure N k set t) ⌝ }
 {
-    let mut r: u8 = UseMap::EVERY;
-    let mut l: u8 = UseMap::SITES as u8;
-    while 0 < l {
-        l -= 1;
-        r = narrowed(set, l, box_at(boxes, k, l, t), r);
+    if set == 0 {
+        return UseMap::EVERY;
     }
-    r
+    if sets::has_site(set, t) {
+        return box_at(boxes, k, t, t) & UseMap::EVERY;
+    }
+    box_of(boxes, k, t) & UseMap::EVERY
 }
 
 // Use map: rights for each site.

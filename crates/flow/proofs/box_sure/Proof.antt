@@ -1,61 +1,35 @@
-use mathlib.Core.Path.{_≡_, sym}
-use Prim.Native.Nat.{_≤_}
-use native.Mathlib.Omega.{arith}
-use Rattle.sets.specs.Bits.{meets}
-use Rattle.klaim.specs.Net.{Net, boxAt}
-use Rattle.klaim.specs.Report.{sure}
-use Rattle.flow.proofs.Sites.{sitesFrom, from-all, meets-none, meets-down}
+use mathlib.Core.Path.{sym, ap, _∙_}
+use Prim.Native.Nat.{ℕ}
+use lib.Bits.{bitAnd}
+use Rattle.sets.specs.Bits.{meet}
 use borrow.Author.Needs.{needs}
+use Rattle.flow.proofs.Boxes.{sure-none, sure-own, sure-other}
 use Rattle.flow.proofs.box_sure.Statement.{statement}
 use Rattle.flow.proofs.box_sure.Tie as tie
 
-abbrev Inv-loop : tie.InvT-loop
-Inv-loop boxes k set t r₀ l₀ r l = (l ≤ 32) × ((N : Net) → N .boxes ≡ boxes → r ≡ meets (λ l. boxAt N k l t) (sitesFrom set l))
+returns : tie.Need-returns
+returns c = λ N e. sure-none N _ _ _ (c .if1 .taken)
 
-abbrev μ-loop : tie.MeasureT-loop
-μ-loop boxes k set t r₀ l₀ r l = l
+has-site-requires : tie.Need-has-site-requires
+has-site-requires c κs = search needs
 
-cast-l : tie.Need-cast-l Inv-loop μ-loop
-cast-l c = search needs
-
-loop-holds : tie.Need-loop-holds Inv-loop μ-loop
-loop-holds c = (omega arith, λ N e. sym (meets-none _ _))
-
-sub-l : tie.Need-sub-l Inv-loop μ-loop
-sub-l c = search needs
-
-box-at-requires : tie.Need-box-at-requires Inv-loop μ-loop
+box-at-requires : tie.Need-box-at-requires
 box-at-requires c κs = search needs
 
-narrowed-requires : tie.Need-narrowed-requires Inv-loop μ-loop
-narrowed-requires c κs = search needs
+returns-2 : tie.Need-returns-2
+unfolding meet
+returns-2 c =
+    let a = c .before .before .before .before .args in
+    λ N e. ap (λ (x : ℕ). bitAnd x 31) (c .box-at .ensures N e) ∙ sure-own N (a .k) (a .set) (a .t) (search needs) (sym (c .before .before .has-site .ensures) ∙ c .before .if2 .taken)
 
-loop-less : tie.Need-loop-less Inv-loop μ-loop
-loop-less c = search needs
+box-of-requires : tie.Need-box-of-requires
+box-of-requires c κs = search needs
 
-loop-again : tie.Need-loop-again Inv-loop μ-loop
-loop-again c =
-    let at = c .before .before .before .loop in
-    let ar = c .before .before .before .before .args in
-    (omega arith, λ N e. rw (c .narrowed .ensures, c .before .box-at .ensures N e, at .inv .1 N e) (sym (meets-down (λ l. boxAt N (ar .k) l (ar .t)) (ar .set) (at .l) (omega arith) (omega arith))))
-
-returns : tie.Need-returns Inv-loop μ-loop
-unfolding sure
-returns c =
-    let e : c .before .loop .l ≡ 0 = omega arith in
-    λ N q. rw (e, from-all) at (c .before .loop .inv .1 N q)
+returns-3 : tie.Need-returns-3
+unfolding meet
+returns-3 c =
+    let a = c .before .before .before .before .args in
+    λ N e. ap (λ (x : ℕ). bitAnd x 31) (c .box-of .ensures N e) ∙ sure-other N (a .k) (a .set) (a .t) (search needs) (c .before .before .before .if1 .left) (sym (c .before .before .has-site .ensures) ∙ c .before .if2 .left)
 
 pub box-sure-spec : {M : Type 1} → statement M
-box-sure-spec =
-    tie.close
-    (tie.spec
-    Inv-loop
-    μ-loop
-    cast-l
-    loop-holds
-    sub-l
-    box-at-requires
-    narrowed-requires
-    loop-less
-    loop-again
-    returns)
+box-sure-spec = tie.close (tie.spec returns has-site-requires box-at-requires returns-2 box-of-requires returns-3)

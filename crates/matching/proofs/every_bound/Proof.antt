@@ -1,70 +1,77 @@
-use mathlib.Core.Path.{_≡_, refl, sym, _∙_}
+use mathlib.Core.Path.{_≡_, ap, _∙_}
 use mathlib.Core.Bool.{Bool}
 use mathlib.Core.List.{List, map}
-use Prim.Native.Nat.{ℕ, suc, _≤_, _-_, _+_}
+use Prim.Native.Nat.{ℕ, _≤_}
 use native.Mathlib.Omega.{arith}
-use lib.ListN.{take, drop}
+use lib.ListN.{length, take, drop}
 use Rattle.sets.specs.Lists.{imp, all, table}
 use Rattle.sets.specs.Bits.{sites}
 use Rattle.klaim.proofs.Choices.{fits}
 use Rattle.tables.specs.View.{rowAt, rowsView}
-use Rattle.matching.proofs.Laws.{all-yes, all-no, all-end}
+use Rattle.matching.specs.Marks.{Asked}
+use Rattle.matching.proofs.Laws.{and-both, all-end, all-down}
 use borrow.Author.Needs.{needs}
 use Rattle.matching.proofs.every_bound.Statement.{statement}
 use Rattle.matching.proofs.every_bound.Tie as tie
-use Rattle.matching.proofs.every_bound.Reads as reads
-use Rattle.matching.proofs.every_bound.Lts as lts
-use Rattle.matching.proofs.row_bound.Reads as row-bound-reads
 
 -- a row within the sets `want` is within the sets `allow`
 abbrev bound : List ℕ → List ℕ → ℕ → List ℕ → Bool
 bound want allow m row = imp (fits (map sites (take m want)) row) (fits (map sites (take m allow)) row)
 
 abbrev Inv-loop : tie.InvT-loop
-Inv-loop rows n want allow m i₀ i = (i ≤ n) × (all (bound want allow m) (table n (rowAt rows)) ≡ all (bound want allow m) (drop i (table n (rowAt rows))))
+Inv-loop rows n m a b c d e ok₀ i₀ ok i = (i ≤ n) × ((want allow : List ℕ) → length want ≡ 5 → length allow ≡ 5 → Asked want allow m a b c d e → ok ≡ all (bound want allow m) (drop i (table n (rowAt rows))))
 
 abbrev μ-loop : tie.MeasureT-loop
-μ-loop rows n want allow m i₀ i = n - i
+μ-loop rows n m a b c d e ok₀ i₀ ok i = i
 
--- src/lib.rt:146:5
+place-requires : tie.Need-place-requires Inv-loop μ-loop
+place-requires c κs = search needs
+
+place-requires-2 : tie.Need-place-requires-2 Inv-loop μ-loop
+place-requires-2 c κs = search needs
+
+place-requires-3 : tie.Need-place-requires-3 Inv-loop μ-loop
+place-requires-3 c κs = search needs
+
+place-requires-4 : tie.Need-place-requires-4 Inv-loop μ-loop
+place-requires-4 c κs = search needs
+
+place-requires-5 : tie.Need-place-requires-5 Inv-loop μ-loop
+place-requires-5 c κs = search needs
+
 loop-holds : tie.Need-loop-holds Inv-loop μ-loop
-loop-holds c = (omega arith, refl)
+loop-holds c =
+    let ar = c .before .before .before .before .before .args in
+    (omega arith, λ want allow five also asked. all-end (bound want allow (ar .m)) (ar .n) (rowAt (ar .rows .now)))
 
--- src/lib.rt:147:12
+sub-i : tie.Need-sub-i Inv-loop μ-loop
+sub-i c = search needs
+
 row-bound-requires : tie.Need-row-bound-requires Inv-loop μ-loop
 row-bound-requires c κs = search needs
 
--- src/lib.rt:148:13
-add-i : tie.Need-add-i Inv-loop μ-loop
-add-i c = search needs
+both-requires : tie.Need-both-requires Inv-loop μ-loop
+both-requires c κs = search needs
 
--- src/lib.rt:146:5
 loop-less : tie.Need-loop-less Inv-loop μ-loop
 loop-less c = omega arith
 
--- src/lib.rt:146:5
 loop-again : tie.Need-loop-again Inv-loop μ-loop
 loop-again c =
-    let at = c .before .before .before .loop in
-    let ar = c .before .before .before .before .args in
-    let e : suc (at .i) ≡ at .i + 1 = omega arith in
-    (omega arith, at .inv .1 ∙ all-yes (bound (ar .want) (ar .allow) (ar .m)) (ar .n) (rowAt (ar .rows .now)) (at .i) (at .i + 1) (omega arith) e (sym (c .before .row-bound .ensures) ∙ c .if1 .taken))
+    let at = c .before .before .before .before .before .before .before .before .loop in
+    let ar = c .before .before .before .before .before .before .before .before .before .before .before .before .before .before .args in
+    (omega arith, λ want allow five also asked. c .both .ensures ∙ and-both (c .before .row-bound .ensures want allow five also asked) (at .inv .1 want allow five also asked) ∙ all-down (bound want allow (ar .m)) (ar .n) (rowAt (ar .rows .now)) (at .i) (omega arith) (omega arith))
 
--- src/lib.rt:150:13
 returns : tie.Need-returns Inv-loop μ-loop
 unfolding rowsView
 returns c =
-    let at = c .before .before .before .loop in
-    let ar = c .before .before .before .before .args in
-    sym (at .inv .1 ∙ all-no (bound (ar .want) (ar .allow) (ar .m)) (ar .n) (rowAt (ar .rows .now)) (at .i) (omega arith) (sym (c .before .row-bound .ensures) ∙ c .if1 .left))
-
--- src/lib.rt:141:1
-returns-2 : tie.Need-returns-2 Inv-loop μ-loop
-unfolding rowsView
-returns-2 c =
     let at = c .before .loop in
-    let ar = c .before .before .args in
-    sym (at .inv .1 ∙ all-end (bound (ar .want) (ar .allow) (ar .m)) (ar .n) (rowAt (ar .rows .now)) (at .i) (omega arith))
+    let s = c .before .before .before .before .before .before .before in
+    let e : at .i ≡ 0 = omega arith in
+    let five : length (s .args .want) ≡ 5 = search needs in
+    let also : length (s .args .allow) ≡ 5 = search needs in
+    at .inv .1 (s .args .want) (s .args .allow) five also (record { one = c .before .before .before .before .before .before .place .ensures; two = c .before .before .before .before .before .place2 .ensures; three = c .before .before .before .before .place3 .ensures; four = c .before .before .before .place4 .ensures; five = c .before .before .place5 .ensures })
+    ∙ ap (λ (k : ℕ). all (bound (s .args .want) (s .args .allow) (s .args .m)) (drop k (table (s .args .n) (rowAt (s .args .rows .now))))) e
 
 pub every-bound-spec : {M : Type 1} → statement M
 every-bound-spec =
@@ -72,10 +79,15 @@ every-bound-spec =
     (tie.spec
     Inv-loop
     μ-loop
+    place-requires
+    place-requires-2
+    place-requires-3
+    place-requires-4
+    place-requires-5
     loop-holds
+    sub-i
     row-bound-requires
-    add-i
+    both-requires
     loop-less
     loop-again
-    returns
-    returns-2)
+    returns)

@@ -1,27 +1,33 @@
 use mathlib.Core.Path.{sym, _∙_}
+use Rattle.matching.proofs.Laws.{fits-other, sets-long, odd-first, odd-second, marks-want, marks-allow, imp-no, imp-both}
 use borrow.Author.Needs.{needs}
-use Rattle.matching.proofs.Laws.{imp-yes, imp-no}
 use Rattle.matching.proofs.row_bound.Statement.{statement}
 use Rattle.matching.proofs.row_bound.Tie as tie
-use Rattle.matching.proofs.row_bound.Reads as reads
-use Rattle.matching.proofs.row_bound.Lts as lts
-use Rattle.matching.proofs.row_within.Reads as row-within-reads
 
--- src/lib.rt:134:8
-row-within-requires : tie.Need-row-within-requires
-row-within-requires c κs = search needs
+row-marks-requires : tie.Need-row-marks-requires
+row-marks-requires c κs = search needs
 
--- src/lib.rt:135:9
-row-within-requires-2 : tie.Need-row-within-requires-2
-row-within-requires-2 c κs = search needs
+row-len-requires : tie.Need-row-len-requires
+row-len-requires c κs = search needs
 
--- src/lib.rt:135:9
+holds-requires : tie.Need-holds-requires
+holds-requires c κs = search needs
+
 returns : tie.Need-returns
-returns c = c .row-within2 .ensures ∙ imp-yes _ (sym (c .before .before .row-within .ensures) ∙ c .before .if1 .taken)
+returns c =
+    let s = c .before .before .before .before in
+    let x = c .before .before .before .row-marks .ensures in
+    let long = sym (c .before .before .row-len .ensures) ∙ c .before .if1 .taken in
+    λ want allow five also asked.
+    c .holds .ensures
+    ∙ imp-both (odd-first _ _ (x .0) ∙ marks-want want allow (s .args .rows .now) (s .args .m) (s .args .i) asked (x .1) (s .pre .0) (s .pre .1) (s .pre .7) long five)
+    (odd-second _ _ (x .0) ∙ marks-allow want allow (s .args .rows .now) (s .args .m) (s .args .i) asked (x .1) (s .pre .0) (s .pre .1) (s .pre .7) long also)
 
--- src/lib.rt:130:1
 returns-2 : tie.Need-returns-2
-returns-2 c = imp-no _ (sym (c .before .row-within .ensures) ∙ c .if1 .left)
+returns-2 c =
+    let s = c .before .before .before in
+    λ want allow five also asked. imp-no _ (sym (fits-other _ _ (λ e. c .if1 .left (c .before .row-len .ensures ∙ e ∙ sets-long want (s .args .m) (s .pre .7) five))))
 
 pub row-bound-spec : {M : Type 1} → statement M
-row-bound-spec = tie.close (tie.spec row-within-requires row-within-requires-2 returns returns-2)
+row-bound-spec =
+    tie.close (tie.spec row-marks-requires row-len-requires holds-requires returns returns-2)

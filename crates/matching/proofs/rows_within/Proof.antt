@@ -1,68 +1,75 @@
-use mathlib.Core.Path.{_≡_, refl, sym, ap, _∙_}
-use Prim.Native.Nat.{ℕ, suc, _≤_, _<_, _-_, _+_, min}
+use mathlib.Core.Path.{_≡_, sym, ap, _∙_}
+use mathlib.Core.List.{List, map}
+use Prim.Native.Nat.{ℕ, suc, _≤_, _-_, _+_}
 use native.Mathlib.Omega.{arith}
-use lib.ListN.{length, drop, getD}
-use borrow.Author.Needs.{needs}
-use mathlib.Core.List.{map}
-use lib.ListN.{take}
+use lib.ListN.{length, take}
 use Rattle.sets.specs.Lists.{keep, table}
 use Rattle.sets.specs.Bits.{sites}
 use Rattle.klaim.proofs.Choices.{fits}
 use Rattle.tables.specs.View.{rowAt, rowsView}
+use Rattle.matching.specs.Marks.{Asked}
 use Rattle.matching.proofs.Laws.{keep-more, keep-none}
+use borrow.Author.Needs.{needs}
 use Rattle.matching.proofs.rows_within.Statement.{statement}
 use Rattle.matching.proofs.rows_within.Tie as tie
-use Rattle.matching.proofs.rows_within.Reads as reads
-use Rattle.matching.proofs.rows_within.Lts as lts
-use Rattle.matching.proofs.one.Reads as one-reads
-use Rattle.matching.proofs.row_within.Reads as row-within-reads
 
 abbrev Inv-loop : tie.InvT-loop
-Inv-loop rows n reaches m have₀ i₀ have i = (i ≤ n) × (have ≡ length (keep (fits (map sites (take m reaches))) (table i (rowAt rows)))) × (have ≤ i)
+Inv-loop rows n m a b c d e have₀ i₀ have i = (i ≤ n) × (have ≤ i) × ((want : List ℕ) → length want ≡ 5 → Asked want want m a b c d e → have ≡ length (keep (fits (map sites (take m want))) (table i (rowAt rows))))
 
 abbrev μ-loop : tie.MeasureT-loop
-μ-loop rows n reaches m have₀ i₀ have i = n - i
+μ-loop rows n m a b c d e have₀ i₀ have i = n - i
 
--- src/lib.rt:82:5
+place-requires : tie.Need-place-requires Inv-loop μ-loop
+place-requires c κs = search needs
+
+place-requires-2 : tie.Need-place-requires-2 Inv-loop μ-loop
+place-requires-2 c κs = search needs
+
+place-requires-3 : tie.Need-place-requires-3 Inv-loop μ-loop
+place-requires-3 c κs = search needs
+
+place-requires-4 : tie.Need-place-requires-4 Inv-loop μ-loop
+place-requires-4 c κs = search needs
+
+place-requires-5 : tie.Need-place-requires-5 Inv-loop μ-loop
+place-requires-5 c κs = search needs
+
 loop-holds : tie.Need-loop-holds Inv-loop μ-loop
-loop-holds c = (omega arith, sym (keep-none _ _), omega arith)
+loop-holds c = (omega arith, omega arith, λ want five asked. sym (keep-none _ _))
 
--- src/lib.rt:83:27
 row-within-requires : tie.Need-row-within-requires Inv-loop μ-loop
 row-within-requires c κs = search needs
 
--- src/lib.rt:83:23
 one-requires : tie.Need-one-requires Inv-loop μ-loop
 one-requires c κs = search needs
 
--- src/lib.rt:83:16
 add-have : tie.Need-add-have Inv-loop μ-loop
 add-have c = search needs
 
--- src/lib.rt:84:9
 add-i : tie.Need-add-i Inv-loop μ-loop
 add-i c = search needs
 
--- src/lib.rt:82:5
 loop-less : tie.Need-loop-less Inv-loop μ-loop
 loop-less c = omega arith
 
--- src/lib.rt:82:5
 loop-again : tie.Need-loop-again Inv-loop μ-loop
 loop-again c =
-    let at = c .before .before .before .loop in
-    let ar = c .before .before .before .before .args in
+    let at = c .before .before .before .before .before .before .before .before .loop in
+    let ar = c .before .before .before .before .before .before .before .before .before .before .before .before .before .before .args in
     let e : suc (at .i) ≡ at .i + 1 = omega arith in
-    (omega arith, rw (c .one .ensures .0, c .before .row-within .ensures, at .inv .1) (keep-more (fits (map sites (take (ar .m) (ar .reaches)))) (at .i) (rowAt (ar .rows .now)) (at .i + 1) e), omega arith)
+    (omega arith, omega (arith, c .one .ensures .1, at .inv .1), λ want five asked. rw (c .one .ensures .0, c .before .row-within .ensures want want five asked, at .inv .2 want five asked) (keep-more (fits (map sites (take (ar .m) want))) (at .i) (rowAt (ar .rows .now)) (at .i + 1) e))
 
--- src/lib.rt:76:1
 returns : tie.Need-returns Inv-loop μ-loop
 unfolding rowsView
 returns c =
     let at = c .before .loop in
-    let ar = c .before .before .args in
-    let e : at .i ≡ ar .n = omega arith in
-    (at .inv .1 ∙ ap (λ (n : ℕ). length (keep (fits (map sites (take (ar .m) (ar .reaches)))) (table n (rowAt (ar .rows .now))))) e, omega arith)
+    let s = c .before .before .before .before .before .before .before in
+    let e : at .i ≡ s .args .n = omega arith in
+    let five : length (s .args .reaches) ≡ 5 = search needs in (
+      at .inv .2 (s .args .reaches) five (record { one = c .before .before .before .before .before .before .place .ensures; two = c .before .before .before .before .before .place2 .ensures; three = c .before .before .before .before .place3 .ensures; four = c .before .before .before .place4 .ensures; five = c .before .before .place5 .ensures })
+          ∙ ap (λ (n : ℕ). length (keep (fits (map sites (take (s .args .m) (s .args .reaches)))) (table n (rowAt (s .args .rows .now))))) e,
+      omega (arith, at .inv .1),
+    )
 
 pub rows-within-spec : {M : Type 1} → statement M
 rows-within-spec =
@@ -70,6 +77,11 @@ rows-within-spec =
     (tie.spec
     Inv-loop
     μ-loop
+    place-requires
+    place-requires-2
+    place-requires-3
+    place-requires-4
+    place-requires-5
     loop-holds
     row-within-requires
     one-requires
