@@ -19,7 +19,7 @@ use Rattle.scan.specs.declared.Tally.{Tally}
 use Rattle.scan.specs.Progress.{rowsLeft, Progress, going, ended}
 use Rattle.scan.specs.Numbers.{judgedBy}
 use Rattle.scan.specs.Tallies.{countedOf}
-use Rattle.scan.proofs.Progress.{progress-none, progress-more, progress-bad, progress-end, progress-refused}
+use Rattle.scan.proofs.Progress.{progress-none, progress-more, progress-bad, progress-end, progress-refused, going-on, row-within as within}
 use Rattle.arrivals.specs.Rows.{ArrivalTally, Passed, startOf}
 use Rattle.arrivals.specs.Read.{RowsRead, taken, refusal}
 use Rattle.arrivals.proofs.Rows.{of-group, room, withLine, counted-line, tally-more}
@@ -54,12 +54,7 @@ reading-start n d s t e = subst (λ (t : Tally). Reading n d s (replicate {A = �
 
 -- a row ends within the text
 pub row-within : {n d at : ℕ} {s lines : List ℕ} {t : Tally} → Reading n d s lines t at → at < length s → (e : ℕ) → e ≡ endOf newline s at → e ≤ length s
-row-within {n} {d} {at} {s} R h e q = subst (λ (k : ℕ). k ≤ length s) (sym q) (end-le newline s at (omega arith))
-
--- as long as no row is refused, rows stand above
-going-on : {n d at count number : ℕ} {s : List ℕ} {P : List Row → Type 0} → Progress (anArrival n d) P s at number count → number ≡ 0 → (above : List Row) × P above × (length above ≡ count) × (readRows (anArrival n d) s ≡ scan (anArrival n d) above (rowsLeft s at))
-going-on (going above z m p e) q = (above, p, m, e)
-going-on (ended z e) q = absurd (omega arith)
+row-within {n} {d} {at} {s} R h e q = within s at e q h
 
 -- one row of the text, the table and the tally of those above it, and the number that it is judged by
 module _ (n d : ℕ) (s lines : List ℕ) (t : Tally) (at next : ℕ) (row : RowData) (number : ℕ)

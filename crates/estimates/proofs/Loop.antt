@@ -26,7 +26,7 @@ use Rattle.scan.specs.Progress.{rowsLeft, Progress, going, ended}
 use Rattle.scan.specs.Numbers.{judgedBy}
 use Rattle.scan.specs.Tallies.{countedOf}
 use Rattle.scan.specs.Tallies as Tallies
-use Rattle.scan.proofs.Progress.{progress-none, progress-more, progress-bad, progress-end, progress-refused}
+use Rattle.scan.proofs.Progress.{progress-none, progress-more, progress-bad, progress-end, progress-refused, going-on, gather-none, row-within as within}
 use Rattle.estimates.specs.Rows.{EstimateTables, EstimateTally, Passed, fullOf, placedOf, startOf}
 use Rattle.estimates.specs.Read.{estimateAnswer}
 use Rattle.estimates.proofs.Rows.{tally-more, tuples-few}
@@ -46,16 +46,6 @@ pub record Reading (n : ℕ) (s binds stand hold : List ℕ) (t : Tally) (at : �
   pub bindsLong : length binds ≡ 32
   pub standLong : length stand ≡ 1536
   pub holdLong : length hold ≡ 1024
-
--- a table of zeros holds no rows
-zeros : (m i : ℕ) → replicate {A = ℕ} m 0 ≡ tableFrom m i (λ k. 0)
-unfolding tableFrom
-zeros zero i = refl
-zeros (suc m) i = ap (λ (xs : List ℕ). 0 ∷ xs) (zeros m (suc i))
-
-gather-none : (m : ℕ) (place value : Row → ℕ) (g : ℕ) → replicate {A = ℕ} m 0 ≡ gather m place value (ofGroup g [])
-unfolding gather ofGroup keep joins table
-gather-none m place value g = zeros m 0
 
 tables-none : EstimateTables [] (replicate {A = ℕ} 32 0) (replicate {A = ℕ} 1536 0) 0 (replicate {A = ℕ} 1024 0)
 unfolding rowsView ofGroup keep table tableFrom
@@ -83,12 +73,7 @@ reading-start n s t e = subst (λ (t : Tally). Reading n s (replicate {A = ℕ} 
 
 -- a row ends within the text
 pub row-within : {n at : ℕ} {s binds stand hold : List ℕ} {t : Tally} → Reading n s binds stand hold t at → at < length s → (e : ℕ) → e ≡ endOf newline s at → e ≤ length s
-row-within {n} {at} {s} R h e q = subst (λ (k : ℕ). k ≤ length s) (sym q) (end-le newline s at (omega arith))
-
--- as long as no row is refused, rows stand above
-going-on : {n at count number : ℕ} {s : List ℕ} {P : List Row → Type 0} → Progress (anEstimate n) P s at number count → number ≡ 0 → (above : List Row) × P above × (length above ≡ count) × (readRows (anEstimate n) s ≡ scan (anEstimate n) above (rowsLeft s at))
-going-on (going above z m p e) q = (above, p, m, e)
-going-on (ended z e) q = absurd (omega arith)
+row-within {n} {at} {s} R h e q = within s at e q h
 
 -- the counts with a row let through
 running-more : (row : RowData) (t : Tally) → Passed row t → Running t → Running (countedOf row t)

@@ -14,7 +14,7 @@ use Rattle.sets.specs.Lists.{Elem, All, done, more, _&_, imp, all, any, only, k
 use Rattle.sets.specs.Bits.{has, mem, sites, meet}
 use Rattle.sets.proofs.Lists.{iff, and-i, and-l, and-r, among-in, any-i, eq-eqb, eqb-eq, keep-snoc}
 use Rattle.sets.proofs.Counting.{Unlike}
-use Rattle.sets.proofs.Tables.{Filled, length-table, table-snoc, table-drop}
+use Rattle.sets.proofs.Tables.{Filled, length-table, getD-table, table-snoc, table-drop}
 use Rattle.sets.proofs.Bits.{has-and, sites-in, in-sites}
 use Rattle.klaim.specs.Invariant.{distinct}
 use Rattle.klaim.specs.Analysis.{choices}
@@ -170,10 +170,30 @@ pub imp-no : {a : Bool} (b : Bool) → a ≡ false → true ≡ imp a b
 unfolding imp
 imp-no b e = rw e
 
--- behind the last element of a table
-pub all-end : {A : Type 0} (f : A → Bool) (n : ℕ) (g : ℕ → A) → true ≡ all f (drop n (table n g))
-unfolding all
-all-end f n g = sym (ap (all f) (drop-of-length-le (table n g) {i = n} (omega (arith, length-table n g))))
+-- a test of a table, from place i on
+module _ {A : Type 0} (f : A → Bool) (n : ℕ) (g : ℕ → A) where
+  all-from : (i : ℕ) → i < n → all f (drop i (table n g)) ≡ (f (g i) & all f (drop (suc i) (table n g)))
+  unfolding all
+  all-from i h =
+      ap (all f) (drop-cons (table n g) i (g i) (omega (arith, length-table n g)))
+      ∙ ap (λ (x : A). f x & all f (drop (suc i) (table n g))) (getD-table n g i (g i) h)
+
+  pub all-yes : (i k : ℕ) → i < n → suc i ≡ k → f (g i) ≡ true → all f (drop i (table n g)) ≡ all f (drop k (table n g))
+  unfolding _&_
+  all-yes i k h e t = all-from i h ∙ ap (λ (b : Bool). b & all f (drop (suc i) (table n g))) t ∙ ap (λ (k : ℕ). all f (drop k (table n g))) e
+
+  pub all-no : (i : ℕ) → i < n → f (g i) ≡ false → all f (drop i (table n g)) ≡ false
+  unfolding _&_
+  all-no i h t = all-from i h ∙ ap (λ (b : Bool). b & all f (drop (suc i) (table n g))) t
+
+  pub all-end : (i : ℕ) → n ≤ i → all f (drop i (table n g)) ≡ true
+  unfolding all
+  all-end i h = ap (all f) (drop-of-length-le (table n g) {i = i} (omega (arith, length-table n g)))
+
+  -- downwards
+  pub all-down : (i : ℕ) → 0 < i → i ≤ n → (f (g (i - 1)) & all f (drop i (table n g))) ≡ all f (drop (i - 1) (table n g))
+  unfolding all
+  all-down i p h = sym (ap (all f) (table-drop n g i p h))
 
 and-yes : (x : Bool) → x ≡ (x & true)
 unfolding _&_
@@ -300,9 +320,3 @@ module _ (want allow bs : List ℕ) (m i : ℕ) {a b c d e : List ℕ} (asked : 
         (second-here 2 (asked .three) (omega arith) _ (omega arith)) (second-behind 2 (asked .three) (omega arith) _ (omega arith))
         (second-here 3 (asked .four) (omega arith) _ (omega arith)) (second-behind 3 (asked .four) (omega arith) _ (omega arith))
         (second-here 4 (asked .five) (omega arith) _ (omega arith)) (second-behind 4 (asked .five) (omega arith) _ (omega arith))
-
--- a test of a table, downwards
-module _ {A : Type 0} (f : A → Bool) (n : ℕ) (g : ℕ → A) where
-  pub all-down : (i : ℕ) → 0 < i → i ≤ n → (f (g (i - 1)) & all f (drop i (table n g))) ≡ all f (drop (i - 1) (table n g))
-  unfolding all
-  all-down i p h = sym (ap (all f) (table-drop n g i p h))

@@ -1,4 +1,4 @@
-use mathlib.Core.Path.{_≡_, ap, _∙_}
+use mathlib.Core.Path.{_≡_, sym, ap, _∙_}
 use mathlib.Core.Bool.{Bool}
 use mathlib.Core.List.{List, map}
 use Prim.Native.Nat.{ℕ, _≤_}
@@ -42,7 +42,7 @@ place-requires-5 c κs = search needs
 loop-holds : tie.Need-loop-holds Inv-loop μ-loop
 loop-holds c =
     let ar = c .before .before .before .before .before .args in
-    (omega arith, λ want allow five also asked. all-end (bound want allow (ar .m)) (ar .n) (rowAt (ar .rows .now)))
+    (omega arith, λ want allow five also asked. sym (all-end (bound want allow (ar .m)) (ar .n) (rowAt (ar .rows .now)) (ar .n) (omega arith)))
 
 sub-i : tie.Need-sub-i Inv-loop μ-loop
 sub-i c = search needs
