@@ -2,7 +2,7 @@
 ghost use mathlib.Core.Path.{_≡_};
 ghost use mathlib.Core.Bool.{true};
 ghost use mathlib.Core.List.{List};
-ghost use Prim.Native.Nat.{ℕ, _≤_};
+ghost use Prim.Native.Nat.{ℕ, _≤_, min};
 ghost use lib.Dec.{eqb};
 ghost use lib.ListN.{length};
 ghost use Rattle.klaim.specs.Rows.{Row, groupQ};
@@ -142,8 +142,8 @@ fn whole_number(lines: &[u8; 2560], count: usize, turn: bool) -> u8
     5
 }
 
-// An arrival from its bytes, given the n of the net and the number of lines that are present.
-pub fn read_arrival(n: u8, d: usize, s: &[u8]) -> ArrivalRead
+// The same, with room for a line or none.
+fn read_behind(n: u8, d: usize, s: &[u8]) -> ArrivalRead
     requires { ⌜ d ≤ 256 ⌝ }
     ensures { λ r. ⌜ arrivalAnswer r ≡ readArrival n d (now (s .entry)) ⌝ }
 {
@@ -168,4 +168,18 @@ pub fn read_arrival(n: u8, d: usize, s: &[u8]) -> ArrivalRead
         lines,
         count,
     }
+}
+
+// From 256 present lines on there is no room.
+fn clamped(d: usize) -> usize
+    ensures { λ r. ⌜ r ≡ min d 256 ⌝ }
+{
+    if d < LINES { d } else { LINES }
+}
+
+// An arrival from its bytes, among n sites and behind d lines.
+pub fn read_arrival(n: u8, d: usize, s: &[u8]) -> ArrivalRead
+    ensures { λ r. ⌜ arrivalAnswer r ≡ readArrival n d (now (s .entry)) ⌝ }
+{
+    read_behind(n, clamped(d), s)
 }

@@ -1,27 +1,26 @@
 use borrow.Author.Needs.{needs}
-use Rattle.arrivals.proofs.Whole.{arrival-refused, arrival-few, arrival-whole}
+use mathlib.Core.Path.{ap, _∙_}
+use Prim.Native.Nat.{ℕ}
+use Rattle.klaim.specs.Reader.{readArrival}
+use Rattle.arrivals.proofs.Present.{arrival-clamped}
 use Rattle.arrivals.proofs.read_arrival.Statement.{statement}
 use Rattle.arrivals.proofs.read_arrival.Tie as tie
 use Rattle.arrivals.proofs.read_arrival.Reads as reads
 use Rattle.arrivals.proofs.read_arrival.Lts as lts
-use Rattle.arrivals.proofs.read_rows.Reads as read-rows-reads
-use Rattle.arrivals.proofs.whole_number.Reads as whole-number-reads
+use Rattle.arrivals.proofs.clamped.Reads as clamped-reads
+use Rattle.arrivals.proofs.read_behind.Reads as read-behind-reads
 
--- src/lib.rt:150:9
-read-rows-requires : tie.Need-read-rows-requires
-read-rows-requires c κs = search needs
+-- src/lib.rt:184:20
+clamped-requires : tie.Need-clamped-requires
+clamped-requires c κs = search needs
 
--- src/lib.rt:156:9
+-- src/lib.rt:184:5
+read-behind-requires : tie.Need-read-behind-requires
+read-behind-requires c κs = search needs
+
+-- src/lib.rt:181:1
 returns : tie.Need-returns
-returns c = arrival-refused _ _ _ _ (c .before .before .read-rows .ensures) (c .if1 .taken)
-
--- src/lib.rt:164:9
-whole-number-requires : tie.Need-whole-number-requires
-whole-number-requires c κs = (arrival-few _ _ _ _ (c .before .before .before .read-rows .ensures) (c .before .if1 .left), search needs)
-
--- src/lib.rt:146:1
-returns-2 : tie.Need-returns-2
-returns-2 c = arrival-whole _ _ _ _ (c .before .before .before .before .read-rows .ensures) (c .before .before .if1 .left) _ (c .whole-number .ensures)
+returns c = c .read-behind .ensures ∙ ap (λ (k : ℕ). readArrival (c .before .before .before .args .n) k (c .before .before .before .args .s .now)) (c .before .clamped .ensures) ∙ arrival-clamped _ _ _
 
 pub read-arrival-spec : {M : Type 1} → statement M
-read-arrival-spec = tie.close (tie.spec read-rows-requires returns whole-number-requires returns-2)
+read-arrival-spec = tie.close (tie.spec clamped-requires read-behind-requires returns)

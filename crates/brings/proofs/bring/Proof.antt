@@ -6,7 +6,7 @@ use Rattle.brings.proofs.bring.Statement.{statement}
 use Rattle.brings.proofs.bring.Tie as tie
 
 read-arrival-requires : tie.Need-read-arrival-requires
-read-arrival-requires c κs = lines-few _ (c .before .pre)
+read-arrival-requires c κs = search needs
 
 refuse-requires : tie.Need-refuse-requires
 refuse-requires c κs = search needs
