@@ -7,21 +7,22 @@ use Prim.Native.Nat.{ℕ, _+_, _<_, _≤_}
 use native.Mathlib.Omega.{arith}
 use native.Mathlib.Numerals.{add-one}
 use borrow.Author.Tests.{eq-eqb, ne-eqb}
-use lib.ListN.{length, set, take}
+use lib.ListN.{length, set, take, List·getD-append}
 use lib.Seq.{take-suc-set}
-use Rattle.klaim.specs.Process.{Line, move}
+use Rattle.klaim.specs.Process.{Line, Nil, lineAt, move}
 use Rattle.klaim.specs.Reader.{refused, gives, readArrival}
 use Rattle.klaim.specs.Engine.{Result, brought, joined, bringRead, bring}
 use Rattle.klaim.specs.Invariant.{Invariant}
 use Rattle.klaim.proofs.Reader.{ArrivalRead as ReadOk, arrival-read}
 use Rattle.klaim.proofs.Invariant.{bring-keeps}
-use Rattle.tables.specs.View.{netView, estimateView, linesView, rowsView}
-use Rattle.tables.proofs.Lines.{length-view}
+use Rattle.sets.proofs.Tables.{same-table}
+use Rattle.tables.specs.View.{estimateView, lineOf, linesView, rowsView}
+use Rattle.tables.proofs.Lines.{length-view, line-view}
 use Rattle.threads.specs.View.{threadsView}
 use Rattle.arrivals.specs.declared.ArrivalRead.{ArrivalRead}
 use Rattle.arrivals.specs.Read.{arrivalAnswer}
 use Rattle.state.specs.declared.State.{State}
-use Rattle.state.specs.View.{stateView, answerView, resultView}
+use Rattle.state.specs.View.{groundView, stateView, answerView, resultView}
 use Rattle.state.specs.Fits.{Fits}
 use Rattle.brings.specs.Brought.{Brought, Joinable}
 
@@ -29,10 +30,17 @@ use Rattle.brings.specs.Brought.{Brought, Joinable}
 pub root-more : (roots : List ℕ) (k n : ℕ) → k < length roots → take (k + 1) (set roots k n) ≡ take k roots ++ (n ∷ [])
 root-more roots k n h = rw add-one (take-suc-set roots k n h)
 
+-- lines put behind others leave the first of these
+pub own-kept : (own n m : ℕ) (bs new : List ℕ) (ls : List Line) → own ≤ n → linesView (n + m) new ≡ linesView n bs ++ ls → linesView own new ≡ linesView own bs
+unfolding linesView
+own-kept own n m bs new ls h e =
+    same-table own (lineOf new) (lineOf bs) Nil (λ q l.
+    sym (line-view (n + m) new q (omega arith)) ∙ ap (λ (x : List Line). lineAt x q) e ∙ List·getD-append (linesView n bs) ls Nil q (omega (arith, length-view n bs)) ∙ line-view n bs q (omega arith))
+
 -- lines and a root behind those of a state
-pub joined-view : (st : State) (ls ms : List Line) (roots : List ℕ) → ms ≡ linesView (st .nlines) (st .lines) ++ map (move (st .nlines)) ls → roots ≡ take (st .narrivals) (st .arrivals) ++ (st .nlines ∷ []) → record { net = netView (st .net); estimate = estimateView (st .estimate); lines = ms; arrivals = roots; threads = threadsView (st .nthreads) (st .threads); tuples = rowsView (st .ntuples) (st .tuples) } ≡ joined (stateView st) ls
+pub joined-view : (st : State) (ls own ms : List Line) (roots : List ℕ) → own ≡ linesView (st .own) (st .lines) → ms ≡ linesView (st .nlines) (st .lines) ++ map (move (st .nlines)) ls → roots ≡ take (st .narrivals) (st .arrivals) ++ (st .nlines ∷ []) → record { net = groundView (st .net) own; estimate = estimateView (st .estimate); lines = ms; arrivals = roots; threads = threadsView (st .nthreads) (st .threads); tuples = rowsView (st .ntuples) (st .tuples) } ≡ joined (stateView st) ls
 unfolding stateView joined
-joined-view st ls ms roots e f = rw (e, f, length-view (st .nlines) (st .lines))
+joined-view st ls own ms roots g e f = rw (g, e, f, length-view (st .nlines) (st .lines))
 
 -- an arrival that was read for a state
 module _ (st : State) (f : Fits st) where
@@ -42,7 +50,7 @@ module _ (st : State) (f : Fits st) where
 
   module _ (rows : List ℕ) (a : ArrivalRead) (e : arrivalAnswer a ≡ readArrival (st .net .size) (st .nlines) rows) where
     bring-read : bring (stateView st) rows ≡ bringRead (stateView st) (arrivalAnswer a)
-    unfolding stateView netView bring
+    unfolding stateView groundView bring
     bring-read = rw (length-view (st .nlines) (st .lines), e)
 
     refused-read : (a .number ≡ 0 → ⊥) → arrivalAnswer a ≡ refused (a .number) (a .row)
@@ -70,6 +78,7 @@ module _ (st : State) (f : Fits st) where
         some-line = omega (arith, read-ok .some-line, length-view (a .count) (a .lines));
         few = omega (arith, read-ok .few, length-view (a .count) (a .lines));
         roots-few = f .arrivals-few;
+        own-few = f .own-few;
         lines-ordered = read-ok .lines-ordered;
       }
 
@@ -78,16 +87,17 @@ module _ (st : State) (f : Fits st) where
       joined-bring = bring-read ∙ ap (bringRead (stateView st)) read-lines ∙ rw (length-view (st .nlines) (st .lines))
 
       -- the state with the arrival has the invariant
-      joined-fits : (mid : State) → stateView mid ≡ joined (stateView st) (linesView (a .count) (a .lines)) → mid .nthreads ≡ st .nthreads → mid .narrivals ≡ st .narrivals + 1 → mid .nlines ≡ st .nlines + a .count → Fits mid
-      joined-fits mid v t k n = record {
+      joined-fits : (mid : State) → stateView mid ≡ joined (stateView st) (linesView (a .count) (a .lines)) → mid .nthreads ≡ st .nthreads → mid .narrivals ≡ st .narrivals + 1 → mid .nlines ≡ st .nlines + a .count → mid .own ≡ st .own → Fits mid
+      joined-fits mid v t k n o = record {
         threads-few = omega (arith, t, f .threads-few);
+        own-few = omega (arith, n, o, f .own-few);
         arrivals-few = omega (arith, k, n, joinable .some-line, f .arrivals-few);
         invariant = subst Invariant (ap (λ (r : Result). r .state) joined-bring ∙ sym v) (bring-keeps (stateView st) rows (f .invariant));
       }
 
-      pub joined-brought : (mid next : State) → stateView mid ≡ joined (stateView st) (linesView (a .count) (a .lines)) → mid .nthreads ≡ st .nthreads → mid .narrivals ≡ st .narrivals + 1 → mid .nlines ≡ st .nlines + a .count → stateView next ≡ stateView mid → (Fits mid → Fits next) → answerView (next .told) ≡ gives (brought (st .nlines)) → Brought st rows next
+      pub joined-brought : (mid next : State) → stateView mid ≡ joined (stateView st) (linesView (a .count) (a .lines)) → mid .nthreads ≡ st .nthreads → mid .narrivals ≡ st .narrivals + 1 → mid .nlines ≡ st .nlines + a .count → mid .own ≡ st .own → stateView next ≡ stateView mid → (Fits mid → Fits next) → answerView (next .told) ≡ gives (brought (st .nlines)) → Brought st rows next
       unfolding resultView
-      joined-brought mid next v t k n w g q = record {
+      joined-brought mid next v t k n o w g q = record {
         result = rw (w, v, q) (sym joined-bring);
-        fits = g (joined-fits mid v t k n);
+        fits = g (joined-fits mid v t k n o);
       }

@@ -17,9 +17,10 @@ pub record Brought (st : State) (rows : List ℕ) (next : State) : Type 0 where
   pub result : resultView next ≡ Engine.bring (stateView st) rows
   pub fits : Fits next
 
--- there is room for an arrival's lines, of which there is one at least, and for its root
+-- there is room for an arrival's lines, of which there is one at least, and for its root; the net's lines stand before them
 pub record Joinable (st : State) (a : ArrivalRead) : Type 0 where
   pub some-line : 0 < a .count
   pub few : st .nlines + a .count ≤ 256
   pub roots-few : st .narrivals ≤ st .nlines
+  pub own-few : st .own ≤ st .nlines
   pub lines-ordered : ordered (linesView (a .count) (a .lines)) ≡ true

@@ -13,7 +13,7 @@ use state::State;
 fn joined(state: State, read: ArrivalRead) -> State
     requires { ⌜ Joinable state read ⌝ }
     ensures { λ r. ⌜ stateView r ≡ joinedOf (stateView state) (linesView (read .count) (read .lines)) ⌝ }
-    ensures { λ r. ⌜ (r .nthreads ≡ state .nthreads) × (r .narrivals ≡ state .narrivals + 1) × (r .nlines ≡ state .nlines + read .count) ⌝ }
+    ensures { λ r. ⌜ (r .nthreads ≡ state .nthreads) × (r .narrivals ≡ state .narrivals + 1) × (r .nlines ≡ state .nlines + read .count) × (r .own ≡ state .own) ⌝ }
 {
     let n = state.nlines;
     let m = read.count;
@@ -40,8 +40,11 @@ pub fn bring(state: State, rows: &[u8]) -> State
     let number = read.number;
     if number != 0 {
         let row = read.row;
-        return state::refuse(state, number, row);
+        let mut kept = state;
+        kept.told = state::refused(number, row);
+        return kept;
     }
-    let next = joined(state, read);
-    state::tell(next, state::BROUGHT, n as u8, 0, 0)
+    let mut next = joined(state, read);
+    next.told = state::brought(n as u8);
+    next
 }

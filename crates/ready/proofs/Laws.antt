@@ -25,7 +25,7 @@ use Rattle.klaim.specs.State as Spec
 use Rattle.klaim.specs.State.{isNil}
 use Rattle.klaim.specs.Invariant.{Invariant, allBelow}
 use Rattle.klaim.specs.Engine.{doorAlone, runnable, ready}
-use Rattle.tables.specs.View.{netView, estimateView, lineByte, fieldBytes, locOf, lineBy, lineOf, linesView, actionLine, rowAt, rowsView, Decoded, InForm}
+use Rattle.tables.specs.View.{estimateView, lineByte, fieldBytes, locOf, lineBy, lineOf, linesView, actionLine, rowAt, rowsView, Decoded, InForm}
 use Rattle.tables.specs.declared.Action.{Action}
 use Rattle.tables.proofs.Lines.{line-view, length-view}
 use Rattle.threads.specs.declared.Thread.{Thread}
@@ -33,7 +33,7 @@ use Rattle.threads.specs.View.{noThread, threadView, threadsView}
 use Rattle.threads.proofs.Laws.{threads-long, thread-some}
 use Rattle.tuples.proofs.Rows.{rows-long}
 use Rattle.state.specs.declared.State.{State}
-use Rattle.state.specs.View.{stateView}
+use Rattle.state.specs.View.{groundView, stateView}
 use Rattle.state.specs.Fits.{Fits}
 use Rattle.plan.specs.Move.{Tables, Plannable, Guests, Admits}
 use Rattle.plan.proofs.Laws.{guest-known}
@@ -193,12 +193,12 @@ module _ (st : Spec.State) (items : List Thread) (count : ℕ) (e : st .threads 
 
 -- the tables of a state by value, and what its invariant gives of them
 pub tables : (st : State) → Tables (stateView st) (st .lines) (st .nlines) (st .net .boxes) (st .estimate .binds) (st .estimate .hold) (st .estimate .stand) (st .estimate .nstand) (st .arrivals) (st .narrivals) (st .tuples) (st .ntuples)
-unfolding stateView netView estimateView
+unfolding stateView groundView estimateView
 tables st = record { linesIs = refl; boxesIs = refl; bindsIs = refl; holdIs = refl; standIs = refl; arrivalsIs = refl; tuplesIs = refl }
 
 module _ {st : State} (f : Fits st) (long-lines : length (st .lines) ≡ 2560) (long-stand : length (st .estimate .stand) ≡ 1536) (long-arrivals : length (st .arrivals) ≡ 256) where
   pub fits-guests : Admits (st .lines) (st .nlines) (st .estimate .stand) (st .estimate .nstand) (st .arrivals) (st .narrivals)
-  unfolding stateView netView estimateView allBelow
+  unfolding stateView groundView estimateView allBelow
   fits-guests =
       let v = f .invariant in
       let n : length (linesView (st .nlines) (st .lines)) ≡ st .nlines = length-view (st .nlines) (st .lines) in
@@ -218,7 +218,7 @@ module _ {st : State} (f : Fits st) (long-lines : length (st .lines) ≡ 2560) (
       }
 
   pub fits-thread : length (st .tuples) ≡ 1536 → length (st .threads) ≡ 64 → (k : ℕ) → k < st .nthreads → Plannable (st .lines) (st .nlines) (st .estimate .stand) (st .estimate .nstand) (st .arrivals) (st .narrivals) (st .tuples) (st .ntuples) (getD (st .threads) k noThread)
-  unfolding stateView netView
+  unfolding stateView groundView
   fits-thread long-tuples long-threads k h =
       let v = f .invariant in
       let g = fits-guests in
@@ -238,7 +238,7 @@ module _ {st : State} (f : Fits st) (long-lines : length (st .lines) ≡ 2560) (
       }
 
 pub fits-size : {st : State} → Fits st → st .net .size ≤ 32
-unfolding stateView netView
+unfolding stateView groundView
 fits-size f = f .invariant .sites-few
 
 -- the door called by itself, test by test

@@ -56,22 +56,12 @@ fn say_bad() {
     answers::say(b"bad command\n");
 }
 
-// A bare step and its row.
-fn bare(state: State, c: Command) -> State
+// A step, guarded or bare, and its row.
+fn act(state: State, guarded: bool, c: Command) -> State
     requires { ⌜ Fits state ⌝ }
     ensures { λ next. ⌜ Fits next ⌝ }
 {
-    let next = step::step(state, c.a, c.b, c.c);
-    say_step(next.told);
-    next
-}
-
-// A guarded step and its row.
-fn guarded(state: State, c: Command) -> State
-    requires { ⌜ Fits state ⌝ }
-    ensures { λ next. ⌜ Fits next ⌝ }
-{
-    let next = step::guarded_step(state, c.a, c.b, c.c);
+    let next = step::step(state, guarded, c.a, c.b, c.c);
     say_step(next.told);
     next
 }
@@ -82,10 +72,10 @@ fn obey(state: State, c: Command) -> State
     ensures { λ next. ⌜ Fits next ⌝ }
 {
     if c.kind == commands::STEP {
-        return bare(state, c);
+        return act(state, false, c);
     }
     if c.kind == commands::GUARDED {
-        return guarded(state, c);
+        return act(state, true, c);
     }
     if c.kind == commands::DOOR {
         say_door(ready::door(state, c.a, c.b, c.c));

@@ -30,9 +30,9 @@ use Rattle.threads.proofs.Laws.{bindings-none}
 use Rattle.worlds.specs.declared.WorldRead.{WorldRead}
 use Rattle.worlds.specs.World.{worldView, worldAnswer}
 use Rattle.state.specs.declared.State.{State}
-use Rattle.state.specs.View.{stateView}
+use Rattle.state.specs.View.{groundView, stateView}
 use Rattle.starts.specs.declared.Threads.{Threads}
-use Rattle.starts.specs.Started.{startView, Started, RootsIn, begunOf}
+use Rattle.starts.specs.Started.{startView, Started, RootsIn, groundOf, begunOf}
 
 -- a line of kind 0 is `nil`, and no other
 abbrev Other : Line → Type 0
@@ -120,7 +120,7 @@ module _ (w : WorldRead) (ts : Threads) where
   begun-refused h = rw (ne-eqb (w .number) 0 h)
 
   pub begun-gives : w .number ≡ 0 → threadsView (ts .count) (ts .items) ≡ concat (λ x. settle (netView (w .net) .lines) (rootThread (netView (w .net)) x)) (rootsView (w .net .nroots) (w .net .roots)) → startView (begunOf (w .net) (w .estimate) ts 0 0) ≡ andThen (worldAnswer w) (λ x. gives (begin x))
-  unfolding startView begunOf worldAnswer worldView andThen begin stateView netView
+  unfolding startView begunOf groundOf worldAnswer worldView andThen begin stateView groundView netView
   begun-gives z e = rw (z, e)
 
 -- what was read
@@ -144,14 +144,15 @@ module _ (w : WorldRead) (net estimate : List ℕ) (e : worldAnswer w ≡ readBo
         present = λ i h. omega (arith, root i h .present, length-view (w .net .nlines) (w .net .lines));
       }
 
-  pub started : (st : State) → startView st ≡ andThen (worldAnswer w) (λ x. gives (begin x)) → st .nthreads ≤ 64 → st .narrivals ≡ 0 → Started net estimate st
+  pub started : (st : State) → startView st ≡ andThen (worldAnswer w) (λ x. gives (begin x)) → st .nthreads ≤ 64 → st .narrivals ≡ 0 → st .own ≡ st .nlines → Started net estimate st
   unfolding start startView
-  started st q few none =
+  started st q few none own =
       let r = q ∙ ap (λ (a : Answer World). andThen a (λ x. gives (begin x))) e in
       record {
         result = r;
         fits = λ z. record {
           threads-few = few;
+          own-few = omega arith;
           arrivals-few = omega arith;
           invariant = start-gives net estimate (stateView st) (sym r ∙ ap (λ (b : Bool). cond b (gives (stateView st)) (refused (st .told .number) (st .told .row))) (eq-eqb (st .told .number) 0 z));
         };

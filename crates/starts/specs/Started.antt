@@ -10,6 +10,7 @@ use Rattle.klaim.specs.Reader.{Answer, refused, gives}
 use Rattle.klaim.specs.State as Spec
 use Rattle.tables.specs.declared.Net.{Net}
 use Rattle.tables.specs.declared.Estimate.{Estimate}
+use Rattle.state.specs.declared.Ground.{Ground}
 use Rattle.state.specs.declared.State.{State}
 use Rattle.state.specs.View.{stateView}
 use Rattle.state.specs.Fits.{Fits}
@@ -30,10 +31,23 @@ pub record RootsIn (roots : List ℕ) (n lines : ℕ) : Type 0 where
   pub placed : (i : ℕ) → i < n → getD roots (2 * i) 0 < 32
   pub present : (i : ℕ) → i < n → getD roots (2 * i + 1) 0 < lines
 
+-- a net but for its lines
+unfoldable pub groundOf : Net → Ground
+groundOf N = record {
+  size = N .size;
+  homes = N .homes;
+  boxes = N .boxes;
+  tuples = N .tuples;
+  ntuples = N .ntuples;
+  roots = N .roots;
+  nroots = N .nroots;
+}
+
 -- a state of these threads, nothing brought; `number` and `row` are those of a refusal
 unfoldable pub begunOf : Net → Estimate → Threads → ℕ → ℕ → State
 begunOf N E ts number row = record {
-  net = N;
+  net = groundOf N;
+  own = N .nlines;
   estimate = E;
   lines = N .lines;
   nlines = N .nlines;

@@ -11,8 +11,9 @@ ghost use Rattle.klaim.specs.State.{isNil, settle, rootThread, begin as beginOf
 ghost use Rattle.tables.specs.View.{linesView, rootsView};
 ghost use Rattle.threads.specs.View.{threadView, threadsView};
 ghost use Rattle.worlds.specs.World.{worldAnswer};
-ghost use Rattle.starts.specs.Started.{Started, RootsIn, startView, begunOf};
+ghost use Rattle.starts.specs.Started.{Started, RootsIn, startView, groundOf, begunOf};
 use klaim::Site;
+use state::Ground;
 use state::State;
 use state::Told;
 use tables::Estimate;
@@ -109,6 +110,25 @@ fn root_threads<'a>(
     list
 }
 
+// The net but for its lines.
+fn ground(net: Net) -> Ground
+    ensures { λ r. ⌜ r ≡ groundOf net ⌝ }
+{
+    let homes = net.homes;
+    let boxes = net.boxes;
+    let tuples = net.tuples;
+    let roots = net.roots;
+    Ground {
+        size: net.size,
+        homes,
+        boxes,
+        tuples,
+        ntuples: net.ntuples,
+        roots,
+        nroots: net.nroots,
+    }
+}
+
 // The state of these threads; `number` and `row` are those of a refusal.
 fn begun(net: Net, estimate: Estimate, list: Threads, number: u8, row: usize) -> State
     ensures { λ st. ⌜ st ≡ begunOf net estimate list number row ⌝ }
@@ -129,7 +149,8 @@ fn begun(net: Net, estimate: Estimate, list: Threads, number: u8, row: usize) ->
         right: 0,
     };
     State {
-        net,
+        net: ground(net),
+        own: nlines,
         estimate,
         lines,
         nlines,
@@ -147,7 +168,7 @@ fn begun(net: Net, estimate: Estimate, list: Threads, number: u8, row: usize) ->
 fn begin(w: WorldRead) -> State
     requires { ⌜ (w .number ≡ 0 → RootsIn (w .net .roots) (w .net .nroots) (w .net .nlines)) ⌝ }
     ensures { λ st. ⌜ startView st ≡ andThen (worldAnswer w) (λ x. gives (beginOf x)) ⌝ }
-    ensures { λ st. ⌜ (st .nthreads ≤ 64) × (st .narrivals ≡ 0) ⌝ }
+    ensures { λ st. ⌜ (st .nthreads ≤ 64) × (st .narrivals ≡ 0) × (st .own ≡ st .nlines) ⌝ }
 {
     let number = w.number;
     let row = w.row;

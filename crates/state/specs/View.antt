@@ -8,15 +8,29 @@ use lib.ListN.{take}
 use Rattle.klaim.specs.Reader.{Answer, refused, gives}
 use Rattle.klaim.specs.State as Spec
 use Rattle.klaim.specs.Engine.{Event, brought, silent, performed, Result}
-use Rattle.tables.specs.View.{netView, estimateView, linesView, rowsView}
+use Rattle.klaim.specs.Process.{Line}
+use Rattle.klaim.specs.Net as Net
+use Rattle.tables.specs.View.{estimateView, linesView, rowsView, rootsView}
 use Rattle.threads.specs.View.{threadsView}
 use Rattle.state.specs.declared.Told.{Told}
+use Rattle.state.specs.declared.Ground.{Ground}
 use Rattle.state.specs.declared.State.{State}
 
--- the state of document 01; what was told is no part of it
+-- a net, its lines given
+unfoldable pub groundView : Ground → List Line → Net.Net
+groundView N ls = record {
+  size = N .size;
+  homes = N .homes;
+  boxes = N .boxes;
+  tuples = rowsView (N .ntuples) (N .tuples);
+  roots = rootsView (N .nroots) (N .roots);
+  lines = ls;
+}
+
+-- the state of document 01, the net's lines being the first of the lines; what was told is no part of it
 unfoldable pub stateView : State → Spec.State
 stateView st = record {
-  net = netView (st .net);
+  net = groundView (st .net) (linesView (st .own) (st .lines));
   estimate = estimateView (st .estimate);
   lines = linesView (st .nlines) (st .lines);
   arrivals = take (st .narrivals) (st .arrivals);

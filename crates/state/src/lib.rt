@@ -1,12 +1,11 @@
 //! The engine's state, by value.
 ghost use mathlib.Core.Path.{_≡_};
 ghost use Prim.Native.Nat.{_<_};
-ghost use Rattle.klaim.specs.Reader.{refused, gives};
-ghost use Rattle.klaim.specs.Engine.{brought, silent, performed};
-ghost use Rattle.state.specs.View.{stateView, answerView};
-ghost use Rattle.state.specs.Fits.{Fits};
+ghost use mathlib.Core.Bool.{cond};
+ghost use Rattle.klaim.specs.Reader.{refused as refusedOf, gives};
+ghost use Rattle.klaim.specs.Engine.{brought as broughtOf, silent as silentOf, performed};
+ghost use Rattle.state.specs.View.{answerView};
 use tables::Estimate;
-use tables::Net;
 use threads::Thread;
 
 // What the call behind the state answered: `number` is that of a refusal, with its row, or 0. `event` is what a call that was not
@@ -26,9 +25,22 @@ pub const SILENT: u8 = 1;
 
 pub const PERFORMED: u8 = 2;
 
-// The net, the estimate, the lines with those of the arrivals, the arrivals' roots, the threads, the tuples.
+// A net but for its lines, as `tables::Net` has it.
+pub struct Ground {
+    pub size: u8,
+    pub homes: [u8; 1024],
+    pub boxes: [u8; 1056],
+    pub tuples: [u8; 1536],
+    pub ntuples: usize,
+    pub roots: [u8; 128],
+    pub nroots: usize,
+}
+
+// The net, the estimate, the lines with those of the arrivals (the first `own` are the net's), the arrivals' roots, the threads,
+// the tuples.
 pub struct State {
-    pub net: Net,
+    pub net: Ground,
+    pub own: usize,
     pub estimate: Estimate,
     pub lines: [u8; 2560],
     pub nlines: usize,
@@ -41,34 +53,49 @@ pub struct State {
     pub told: Told,
 }
 
-// The state with the refusal that a call came to.
-pub fn refuse(state: State, number: u8, row: usize) -> State
+// A refusal, with its row.
+pub fn refused(number: u8, row: usize) -> Told
     requires { ⌜ 0 < number ⌝ }
-    ensures { λ r. ⌜ (stateView r ≡ stateView state) × (Fits state → Fits r) ⌝ }
-    ensures { λ r. ⌜ answerView (r .told) ≡ refused number row ⌝ }
+    ensures { λ t. ⌜ answerView t ≡ refusedOf number row ⌝ }
 {
-    let mut next = state;
-    next.told.number = number;
-    next.told.row = row;
-    next
+    Told {
+        number,
+        row,
+        event: SILENT,
+        site: 0,
+        target: 0,
+        right: 0,
+    }
 }
 
-// The state with what a call did that was not refused.
-pub fn tell(state: State, event: u8, site: u8, target: u8, right: u8) -> State
-    ensures { λ r. ⌜ (stateView r ≡ stateView state) × (Fits state → Fits r) ⌝ }
-    ensures { λ r. ⌜ (event ≡ 0 → answerView (r .told) ≡ gives (brought site)) ⌝ }
-    ensures { λ r. ⌜ (event ≡ 1 → answerView (r .told) ≡ gives silent) ⌝ }
-    ensures { λ r. ⌜ (event ≡ 2 → answerView (r .told) ≡ gives (performed site target right)) ⌝ }
+// An arrival brought, its root's line.
+pub fn brought(root: u8) -> Told
+    ensures { λ t. ⌜ answerView t ≡ gives (broughtOf root) ⌝ }
 {
-    let mut next = state;
-    let told = Told {
+    Told {
+        number: 0,
+        row: 0,
+        event: BROUGHT,
+        site: root,
+        target: 0,
+        right: 0,
+    }
+}
+
+// A step that was not refused: silent, or a right used on a target.
+pub fn stepped(silent: bool, site: u8, target: u8, right: u8) -> Told
+    ensures { λ t. ⌜ answerView t ≡ gives (cond silent silentOf (performed site target right)) ⌝ }
+{
+    let mut event: u8 = PERFORMED;
+    if silent {
+        event = SILENT;
+    }
+    Told {
         number: 0,
         row: 0,
         event,
         site,
         target,
         right,
-    };
-    next.told = told;
-    next
+    }
 }

@@ -12,14 +12,14 @@ use Rattle.sets.proofs.Lists.{eqb-eq}
 use Rattle.klaim.specs.Process.{Line, lineAt}
 use Rattle.klaim.specs.Engine.{after}
 use Rattle.klaim.specs.State as Spec
-use Rattle.tables.specs.View.{netView, estimateView, linesView, rowAt, rowsView}
+use Rattle.tables.specs.View.{estimateView, linesView, rowAt, rowsView}
 use Rattle.threads.specs.declared.Thread.{Thread}
 use Rattle.threads.specs.View.{threadView, threadsView}
 use Rattle.threads.proofs.Splice.{splice-long}
 use Rattle.threads.proofs.Laws.{threads-long}
 use Rattle.tuples.proofs.Rows.{rows-long}
 use Rattle.state.specs.declared.State.{State}
-use Rattle.state.specs.View.{stateView}
+use Rattle.state.specs.View.{groundView, stateView}
 use Rattle.plan.specs.declared.Move.{Move}
 use Rattle.plan.specs.Move.{tuplesAfter, stateAfter}
 use Rattle.step.specs.declared.Sizes.{Sizes}
@@ -80,10 +80,10 @@ module _ (st : State) (k m : ℕ) (v : Move) (s : Sizes) (w : Measured (linesVie
   unfolding stateAfter after stateView
   threads-is = ap₂ (λ (xs ys : List Spec.Thread). splice k xs (threadsView (st .nthreads) (st .threads)) ++ ys) settle-is more-is
 
-  pub after-view : {xs : List Spec.Thread} {ys : List (List ℕ)} → xs ≡ splice k (cond (s .nil) [] (threadView (v .thread) ∷ [])) (threadsView (st .nthreads) (st .threads)) ++ cond (s .more) (threadView (v .added) ∷ []) [] → ys ≡ tuplesAfter (rowsView (st .ntuples) (st .tuples)) m v → record { net = netView (st .net); estimate = estimateView (st .estimate); lines = linesView (st .nlines) (st .lines); arrivals = take (st .narrivals) (st .arrivals); threads = xs; tuples = ys } ≡ stateAfter (stateView st) k m v
+  pub after-view : {xs : List Spec.Thread} {ys : List (List ℕ)} → xs ≡ splice k (cond (s .nil) [] (threadView (v .thread) ∷ [])) (threadsView (st .nthreads) (st .threads)) ++ cond (s .more) (threadView (v .added) ∷ []) [] → ys ≡ tuplesAfter (rowsView (st .ntuples) (st .tuples)) m v → record { net = groundView (st .net) (linesView (st .own) (st .lines)); estimate = estimateView (st .estimate); lines = linesView (st .nlines) (st .lines); arrivals = take (st .narrivals) (st .arrivals); threads = xs; tuples = ys } ≡ stateAfter (stateView st) k m v
   unfolding stateAfter after stateView
   after-view p q =
-      ap₂ (λ (xs : List Spec.Thread) (ys : List (List ℕ)). record { net = netView (st .net); estimate = estimateView (st .estimate); lines = linesView (st .nlines) (st .lines); arrivals = take (st .narrivals) (st .arrivals); threads = xs; tuples = ys })
+      ap₂ (λ (xs : List Spec.Thread) (ys : List (List ℕ)). record { net = groundView (st .net) (linesView (st .own) (st .lines)); estimate = estimateView (st .estimate); lines = linesView (st .nlines) (st .lines); arrivals = take (st .narrivals) (st .arrivals); threads = xs; tuples = ys })
       (p ∙ sym threads-is) q
 
   -- how long they are

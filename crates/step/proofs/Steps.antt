@@ -2,14 +2,14 @@
 -- Assumes nothing.
 use mathlib.Core.Path.{_≡_, refl, sym, ap, ap₂, subst, _∙_}
 use mathlib.Core.Bool.{Bool, true, false, not, cond, false≢true}
-use mathlib.Core.List.{List}
+use mathlib.Core.List.{List, [], _∷_, _++_, append-nil}
 use mathlib.Core.Option.{some}
-use Prim.Native.Nat.{ℕ, _<_, _≤_}
+use Prim.Native.Nat.{ℕ, _+_, _-_, _<_, _≤_}
 use native.Mathlib.Omega.{arith}
 use borrow.Author.Tests.{ne-eqb}
 use lib.Dec.{eqb, leb, ltb}
-use lib.ListN.{length, getD, getElem?}
-use Rattle.sets.specs.Lists.{_&_, either}
+use lib.ListN.{length, getD, set, getElem?}
+use Rattle.sets.specs.Lists.{_&_, either, splice}
 use Rattle.sets.proofs.Lists.{All-in, All-get, all-turn, ltb-lt, lt-ltb, and-l, and-r, leb-le}
 use Rattle.klaim.specs.Process.{lineAt}
 use Rattle.klaim.specs.Reader.{Answer, refused, gives}
@@ -19,21 +19,22 @@ use Rattle.klaim.specs.Invariant.{allBelow, ThreadOk, Invariant}
 use Rattle.klaim.specs.State as Spec
 use Rattle.klaim.specs.Engine as Engine
 use Rattle.klaim.proofs.Invariant.{step-keeps}
-use Rattle.tables.specs.View.{netView, estimateView, linesView, rowsView}
+use Rattle.tables.specs.View.{estimateView, linesView, rowsView}
 use Rattle.tables.proofs.Lines.{length-view}
 use Rattle.rules.specs.Masks.{Sized}
 use Rattle.threads.specs.declared.Thread.{Thread}
-use Rattle.threads.specs.View.{noThread, threadView}
-use Rattle.threads.proofs.Laws.{thread-some, thread-none}
+use Rattle.threads.specs.View.{noThread, threadView, threadsView}
+use Rattle.threads.proofs.Laws.{thread-some, thread-none, replace-view, push-view}
 use Rattle.tuples.proofs.Rows.{rows-long}
+use Rattle.state.specs.declared.Told.{Told}
 use Rattle.state.specs.declared.State.{State}
-use Rattle.state.specs.View.{stateView, answerView, resultView}
+use Rattle.state.specs.View.{groundView, stateView, answerView, resultView}
 use Rattle.state.specs.Fits.{Fits}
 use Rattle.plan.specs.declared.Move.{Move}
-use Rattle.plan.specs.Move.{stateAfter, planView, Tables, Plannable}
-use Rattle.step.specs.declared.Sizes.{Sizes}
-use Rattle.step.specs.Stepped.{Measured, Stepped}
-use Rattle.step.proofs.Applied.{threads-count, tuples-count}
+use Rattle.plan.specs.Move.{tuplesAfter, stateAfter, planView, Tables, Plannable}
+use Rattle.step.specs.declared.Decision.{Decision}
+use Rattle.step.specs.Stepped.{Measured, Decided, Stepped}
+use Rattle.step.proofs.Applied.{threads-count, tuples-count, threads-view, after-view}
 
 -- no thread k
 pub no-thread : (guarded : Bool) (st : State) (k m r : ℕ) → st .nthreads ≤ k → st .nthreads ≤ length (st .threads) → step guarded (stateView st) k m r ≡ Engine.refuse 21 0 (stateView st)
@@ -42,11 +43,11 @@ no-thread guarded st k m r h few = rw (thread-none (st .nthreads) (st .threads) 
 
 -- the tables of a state
 pub tables : (st : State) → Tables (stateView st) (st .lines) (st .nlines) (st .net .boxes) (st .estimate .binds) (st .estimate .hold) (st .estimate .stand) (st .estimate .nstand) (st .arrivals) (st .narrivals) (st .tuples) (st .ntuples)
-unfolding stateView netView estimateView
+unfolding stateView groundView estimateView
 tables st = record { linesIs = refl; boxesIs = refl; bindsIs = refl; holdIs = refl; standIs = refl; arrivalsIs = refl; tuplesIs = refl }
 
 pub homes-is : (st : State) → stateView st .net .homes ≡ st .net .homes
-unfolding stateView netView
+unfolding stateView groundView
 homes-is st = refl
 
 -- the arrays of a state have their lengths
@@ -75,7 +76,7 @@ module _ (st : State) (f : Fits st) where
   low-row n h t = all-turn (λ x. ltb x n) (λ x. ltb x 32) t (λ x e. lt-ltb x 32 (omega (arith, ltb-lt x n e)))
 
   sized : length (st .estimate .stand) ≡ 1536 → Sized (st .estimate .nstand) (st .estimate .stand)
-  unfolding stateView netView estimateView
+  unfolding stateView groundView estimateView
   sized long = record {
     few = omega (arith, rows-long (st .estimate .nstand) (st .estimate .stand), i .stand-few);
     long = long;
@@ -89,11 +90,11 @@ module _ (st : State) (f : Fits st) where
     thread-here = thread-some (st .nthreads) (st .threads) k h (omega (arith, w .threads, f .threads-few))
 
     thread-ok : ThreadOk (st .net .size) (linesView (st .nlines) (st .lines)) (threadView (getD (st .threads) k noThread))
-    unfolding stateView netView
+    unfolding stateView groundView
     thread-ok = All-get k (i .threads-ok) thread-here
 
     pub thread-placed : getD (st .threads) k noThread .site .0 < 32
-    unfolding stateView netView
+    unfolding stateView groundView
     thread-placed = omega (arith, thread-ok .placed, i .sites-few)
 
     pub plannable : Plannable (st .lines) (st .nlines) (st .estimate .stand) (st .estimate .nstand) (st .arrivals) (st .narrivals) (st .tuples) (st .ntuples) (getD (st .threads) k noThread)
@@ -111,6 +112,23 @@ module _ (st : State) (f : Fits st) where
       threadPresent = omega (arith, thread-ok .present, length-view (st .nlines) (st .lines));
       threadPlaced = thread-placed;
     }
+
+-- a state with other threads
+abbrev pub withThreads : State → List Thread → State
+withThreads st ts = record {
+  net = st .net;
+  own = st .own;
+  estimate = st .estimate;
+  lines = st .lines;
+  nlines = st .nlines;
+  arrivals = st .arrivals;
+  narrivals = st .narrivals;
+  threads = ts;
+  nthreads = st .nthreads;
+  tuples = st .tuples;
+  ntuples = st .ntuples;
+  told = st .told;
+}
 
 -- what a plan ends with, by the number that refuses it
 module _ (guarded : Bool) (st : Spec.State) (th : Spec.Thread) (t right : ℕ) (new : Spec.State) where
@@ -158,12 +176,13 @@ stepped-no guarded st k m r next e v a f = record {
 }
 
 -- a step that is not
-pub stepped-yes : (guarded : Bool) (st : State) (k m r : ℕ) (next : State) {e : Event} {new : Spec.State} → Fits st → step guarded (stateView st) k m r ≡ record { answer = gives e; state = new } → stateView next ≡ new → answerView (next .told) ≡ gives e → next .nthreads ≤ 64 → next .narrivals ≤ next .nlines → Stepped guarded st k m r next
+pub stepped-yes : (guarded : Bool) (st : State) (k m r : ℕ) (next : State) {e : Event} {new : Spec.State} → Fits st → step guarded (stateView st) k m r ≡ record { answer = gives e; state = new } → stateView next ≡ new → answerView (next .told) ≡ gives e → next .nthreads ≤ 64 → next .own ≤ next .nlines → next .narrivals ≤ next .nlines → Stepped guarded st k m r next
 unfolding resultView
-stepped-yes guarded st k m r next f p v a few less = record {
+stepped-yes guarded st k m r next f p v a few own less = record {
   result = ap₂ (λ (x : Answer Event) (s : Spec.State). record { answer = x; state = s }) a v ∙ sym p;
   fits = record {
     threads-few = few;
+    own-few = own;
     arrivals-few = less;
     invariant = subst Invariant (ap (λ (x : Result). x .state) p ∙ sym v) (step-keeps guarded (stateView st) k m r (f .invariant));
   };
@@ -175,28 +194,82 @@ flip {room = true} {b = false} q = absurd (false≢true (sym q))
 flip {room = false} {b = true} q = absurd (false≢true q)
 flip {room = false} {b = false} q = refl
 
--- a step by what the code finds: the plan, the sizes, the right, the number
-module _ (guarded : Bool) (st : State) (k m r : ℕ) (f : Fits st) (w : Long st) (h : k < st .nthreads) (v : Move) (s : Sizes) where
+-- the number that refuses a move, by the tests that the code makes
+pub number-is : (guarded q : Bool) (stopped threads tuples : ℕ) {may allowed lacks room : Bool} {number : ℕ} → may ≡ allowed → lacks ≡ not (either q (either (not guarded) may)) → room ≡ (leb threads 64 & leb tuples 256) → number ≡ cond (eqb stopped 0) (cond lacks 26 (cond (not room) 27 0)) stopped → number ≡ cond (eqb stopped 0) (cond (not (either q (either (not guarded) allowed))) 26 (cond (leb threads 64 & leb tuples 256) 0 27)) stopped
+number-is guarded q stopped threads tuples p l f e =
+    e ∙ ap₂ (λ (x : Bool) (y : ℕ). cond (eqb stopped 0) (cond x 26 y) stopped) (l ∙ ap (λ (b : Bool). not (either q (either (not guarded) b))) p) (flip f)
+
+-- a step by what the code finds: the plan, the sizes, the number
+module _ (guarded : Bool) (st : State) (k m r : ℕ) (f : Fits st) (w : Long st) (h : k < st .nthreads) (d : Decision) (o : Decided guarded (stateView st) (st .nthreads) (st .ntuples) (getD (st .threads) k noThread) m r d) where
   abbrev th : Spec.Thread
   th = threadView (getD (st .threads) k noThread)
 
-  pub step-ends : Measured (linesView (st .nlines) (st .lines)) (st .nthreads) (st .ntuples) v s → (v .change ≡ 2 → m < st .ntuples) → planView (stateView st) k m v ≡ plan (stateView st) k th m r (lineAt (stateView st .lines) (th .line)) → {allowed : Bool} → ((N : Net) → N .homes ≡ st .net .homes → allowed ≡ permits N th (v .target) (v .right)) → {lacks room : Bool} {number : ℕ} → lacks ≡ not (either (v .silent) (either (not guarded) allowed)) → room ≡ (leb (s .threads) 64 & leb (s .tuples) 256) → number ≡ cond (eqb (v .stop) 0) (cond lacks 26 (cond (not room) 27 0)) (v .stop) → step guarded (stateView st) k m r ≡ Ends guarded (stateView st) th (v .target) (v .right) (stateAfter (stateView st) k m v) (v .silent) number
+  measured : Measured (linesView (st .nlines) (st .lines)) (st .nthreads) (st .ntuples) (d .plan) (d .sizes)
+  unfolding stateView
+  measured = o .measured
+
+  ends : step guarded (stateView st) k m r ≡ Ends guarded (stateView st) th (d .plan .target) (d .plan .right) (stateAfter (stateView st) k m (d .plan)) (d .plan .silent) (d .number)
   unfolding planView
-  step-ends o taken p a l q e =
-      step-plan guarded (stateView st) k m r th (thread-here st f w k h) p
-      ∙ finish-view guarded (stateView st) th (v .target) (v .right) (stateAfter (stateView st) k m v) (v .stop) (s .threads) (s .tuples) (v .silent)
-      (threads-count st k m v s o h (omega (arith, w .threads, f .threads-few)) taken)
-      (tuples-count st k m v s o h (omega (arith, w .threads, f .threads-few)) taken)
-      (a (stateView st .net) (homes-is st))
-      (e ∙ ap₂ (λ (x : Bool) (y : ℕ). cond (eqb (v .stop) 0) (cond x 26 y) (v .stop)) l (flip q))
+  ends =
+      let few : st .nthreads ≤ length (st .threads) = omega (arith, w .threads, f .threads-few) in
+      step-plan guarded (stateView st) k m r th (thread-here st f w k h) (o .planIs k)
+      ∙ finish-view guarded (stateView st) th (d .plan .target) (d .plan .right) (stateAfter (stateView st) k m (d .plan)) (d .plan .stop) (d .sizes .threads) (d .sizes .tuples) (d .plan .silent)
+      (threads-count st k m (d .plan) (d .sizes) measured h few (o .taken))
+      (tuples-count st k m (d .plan) (d .sizes) measured h few (o .taken))
+      refl
+      (o .numberIs)
 
   -- the two ends
-  pub step-no : (number : ℕ) → step guarded (stateView st) k m r ≡ Ends guarded (stateView st) th (v .target) (v .right) (stateAfter (stateView st) k m v) (v .silent) number → (number ≡ 0 → ⊥) → step guarded (stateView st) k m r ≡ Engine.refuse number 0 (stateView st)
-  step-no number e z = e ∙ rw (ne-eqb number 0 z)
+  pub step-no : (d .number ≡ 0 → ⊥) → step guarded (stateView st) k m r ≡ Engine.refuse (d .number) 0 (stateView st)
+  step-no z = ends ∙ rw (ne-eqb (d .number) 0 z)
 
-  pub step-yes : (number : ℕ) → step guarded (stateView st) k m r ≡ Ends guarded (stateView st) th (v .target) (v .right) (stateAfter (stateView st) k m v) (v .silent) number → number ≡ 0 → step guarded (stateView st) k m r ≡ record { answer = gives (cond (v .silent) silent (performed (th .site) (v .target) (v .right))); state = stateAfter (stateView st) k m v }
-  step-yes number e z = e ∙ rw z
+  pub step-yes : d .number ≡ 0 → step guarded (stateView st) k m r ≡ record { answer = gives (cond (d .plan .silent) silent (performed (th .site) (d .plan .target) (d .plan .right))); state = stateAfter (stateView st) k m (d .plan) }
+  step-yes z = ends ∙ rw z
 
--- room, by the number
-pub room-is : (v : Move) (s : Sizes) (lacks : Bool) {room : Bool} {number : ℕ} → room ≡ (leb (s .threads) 64 & leb (s .tuples) 256) → number ≡ cond (eqb (v .stop) 0) (cond lacks 26 (cond (not room) 27 0)) (v .stop) → number ≡ 0 → (s .threads ≤ 64) × (s .tuples ≤ 256)
-room-is v s lacks q e z = room-of (v .stop) (s .threads) (s .tuples) lacks (ap (λ (y : ℕ). cond (eqb (v .stop) 0) (cond lacks 26 y) (v .stop)) (sym (flip q)) ∙ sym e ∙ z)
+  pub room : d .number ≡ 0 → (d .sizes .threads ≤ 64) × (d .sizes .tuples ≤ 256)
+  room z = room-of (d .plan .stop) (d .sizes .threads) (d .sizes .tuples) (not (either (d .plan .silent) (either (not guarded) (permits (stateView st .net) th (d .plan .target) (d .plan .right))))) (sym (o .numberIs) ∙ z)
+
+  -- there is room for one more
+  pub left-room : d .number ≡ 0 → d .sizes .more ≡ true → d .sizes .left < 64
+  left-room z y = omega (arith, room z .0, measured .threadsIs ∙ ap (λ (b : Bool). cond b (d .sizes .left + 1) (d .sizes .left)) y)
+
+  -- the state behind a step, its threads, tuples and answer given
+  abbrev pub behind : List Thread → List ℕ → Told → State
+  behind ts rows told = record {
+    net = st .net;
+    own = st .own;
+    estimate = st .estimate;
+    lines = st .lines;
+    nlines = st .nlines;
+    arrivals = st .arrivals;
+    narrivals = st .narrivals;
+    threads = ts;
+    nthreads = d .sizes .threads;
+    tuples = rows;
+    ntuples = d .sizes .tuples;
+    told = told;
+  }
+
+  -- the threads, with thread k settled
+  abbrev pub Settled : List Thread → Type 0
+  Settled ts = threadsView (cond (d .sizes .nil) (st .nthreads - 1) (st .nthreads)) ts ≡ splice k (cond (d .sizes .nil) [] (threadView (d .plan .thread) ∷ [])) (threadsView (st .nthreads) (st .threads))
+
+  pub settled-gone : (ts : List Thread) → d .sizes .nil ≡ true → threadsView (st .nthreads - 1) ts ≡ splice k [] (threadsView (st .nthreads) (st .threads)) → Settled ts
+  settled-gone ts e q = rw e q
+
+  pub settled-stays : d .sizes .nil ≡ false → Settled (set (st .threads) k (d .plan .thread))
+  settled-stays e = rw e (replace-view (st .threads) (st .nthreads) (d .plan .thread) k h (omega (arith, w .threads, f .threads-few)))
+
+  module _ (z : d .number ≡ 0) (rows : List ℕ) (told : Told) (a : answerView told ≡ gives (cond (d .plan .silent) silent (performed (th .site) (d .plan .target) (d .plan .right)))) (q : rowsView (d .sizes .tuples) rows ≡ tuplesAfter (rowsView (st .ntuples) (st .tuples)) m (d .plan)) where
+    performs : (ts : List Thread) → threadsView (d .sizes .threads) ts ≡ splice k (cond (d .sizes .nil) [] (threadView (d .plan .thread) ∷ [])) (threadsView (st .nthreads) (st .threads)) ++ cond (d .sizes .more) (threadView (d .plan .added) ∷ []) [] → Stepped guarded st k m r (behind ts rows told)
+    unfolding stateView
+    performs ts e = stepped-yes guarded st k m r (behind ts rows told) f (step-yes z) (after-view st k m (d .plan) (d .sizes) measured e q) a (room z .0) (f .own-few) (f .arrivals-few)
+
+    pub performs-alone : (ts : List Thread) → Settled ts → d .sizes .more ≡ false → Stepped guarded st k m r (behind ts rows told)
+    performs-alone ts e n =
+        performs ts (threads-view (d .sizes .nil) (d .sizes .more) (st .nthreads) k (st .threads) ts ts _ _ (measured .leftIs) (measured .threadsIs) e (rw n (sym (append-nil (threadsView (d .sizes .left) ts)))))
+
+    pub performs-more : (ts : List Thread) → length ts ≡ 64 → Settled ts → d .sizes .more ≡ true → Stepped guarded st k m r (behind (set ts (d .sizes .left) (d .plan .added)) rows told)
+    performs-more ts long e y =
+        let few : d .sizes .left < length ts = omega (arith, long, left-room z y) in
+        performs _ (threads-view (d .sizes .nil) (d .sizes .more) (st .nthreads) k (st .threads) ts (set ts (d .sizes .left) (d .plan .added)) _ _ (measured .leftIs) (measured .threadsIs) e (rw y (push-view ts (d .sizes .left) (d .plan .added) few)))

@@ -9,17 +9,15 @@ ghost use Rattle.sets.specs.Lists.{_&_, either, splice};
 ghost use Rattle.klaim.specs.Process.{lineAt};
 ghost use Rattle.klaim.specs.Net.{Net};
 ghost use Rattle.klaim.specs.State.{isNil};
-ghost use Rattle.klaim.specs.Reader.{gives};
-ghost use Rattle.klaim.specs.Engine.{silent as quietly, performed, permits as permitsOf};
+ghost use Rattle.klaim.specs.State as Spec;
+ghost use Rattle.klaim.specs.Engine.{permits as permitsOf};
 ghost use Rattle.tables.specs.View.{linesView, rowsView, rowAt};
-ghost use Rattle.threads.specs.View.{threadView, threadsView};
-ghost use Rattle.state.specs.View.{stateView, answerView};
+ghost use Rattle.threads.specs.View.{threadView};
 ghost use Rattle.state.specs.Fits.{Fits};
-ghost use Rattle.plan.specs.Move.{stateAfter};
-ghost use Rattle.step.specs.Stepped.{Measured, Stepped};
+ghost use Rattle.plan.specs.Move.{Tables, Plannable};
+ghost use Rattle.step.specs.Stepped.{Measured, Decided, Stepped};
 use plan::Move;
 use state::State;
-use state::Told;
 use threads::Thread;
 
 // Whether line q of the n lines is `nil`, or is none of them.
@@ -161,28 +159,6 @@ fn refusal(stop: u8, lacks: bool, full: bool) -> u8
     0
 }
 
-// The threads with thread k come to `nil`, or become th.
-fn settled(items: [Thread; 64], n: usize, k: usize, nil: bool, th: Thread) -> [Thread; 64]
-    requires { ⌜ (k < n) × (n ≤ 64) ⌝ }
-    ensures { λ r. ⌜ threadsView (cond nil (n - 1) n) r ≡ splice k (cond nil [] (threadView th ∷ [])) (threadsView n items) ⌝ }
-{
-    if nil {
-        return threads::remove(items, n, k);
-    }
-    threads::replace(items, n, k, th)
-}
-
-// The threads with one more, or not.
-fn entered(items: [Thread; 64], n: usize, more: bool, th: Thread) -> [Thread; 64]
-    requires { ⌜ cond more (n + 1) n ≤ 64 ⌝ }
-    ensures { λ r. ⌜ threadsView (cond more (n + 1) n) r ≡ threadsView n items ++ cond more (threadView th ∷ []) [] ⌝ }
-{
-    if more {
-        return threads::push(items, n, th);
-    }
-    items
-}
-
 // The tuples with one more, with tuple m taken out, or as they are.
 fn change_tuples(rows: &mut [u8; 1536], n: usize, m: usize, change: u8, row: [u8; 6])
     requires { ⌜ (n ≤ 256) × (cond (eqb change 1) (n + 1) (cond (eqb change 2) (n - 1) n) ≤ 256) × (change ≡ 2 → m < n) × (length (now rows) ≡ 1536) ⌝ }
@@ -197,95 +173,124 @@ fn change_tuples(rows: &mut [u8; 1536], n: usize, m: usize, change: u8, row: [u8
     }
 }
 
-// What a step that was not refused says.
-fn told_of(silent: bool, site: u8, target: u8, right: u8) -> Told
-    ensures { λ t. ⌜ answerView t ≡ gives (cond silent quietly (performed site target right)) ⌝ }
-{
-    let mut event: u8 = state::PERFORMED;
-    if silent {
-        event = state::SILENT;
-    }
-    Told {
-        number: 0,
-        row: 0,
-        event,
-        site,
-        target,
-        right,
-    }
+// What a step comes to: the number that refuses it, or 0; its move, the sizes of the lists behind it.
+pub struct Decision {
+    pub number: u8,
+    pub plan: Move,
+    pub sizes: Sizes,
 }
 
-// The state behind a move of thread k, which nothing refuses.
-fn apply(state: State, site: u8, k: usize, m: usize, v: Move, s: Sizes) -> State
-    requires { ⌜ (k < state .nthreads) × (state .nthreads ≤ 64) × (state .ntuples ≤ 256) × (v .change ≡ 2 → m < state .ntuples) × Measured (linesView (state .nlines) (state .lines)) (state .nthreads) (state .ntuples) v s × (s .threads ≤ 64) × (s .tuples ≤ 256) ⌝ }
-    ensures { λ r. ⌜ stateView r ≡ stateAfter (stateView state) k m v ⌝ }
-    ensures { λ r. ⌜ answerView (r .told) ≡ gives (cond (v .silent) quietly (performed site (v .target) (v .right))) ⌝ }
-    ensures { λ r. ⌜ (r .nthreads ≡ s .threads) × (r .narrivals ≡ state .narrivals) × (r .nlines ≡ state .nlines) ⌝ }
+// What a step of thread th comes to by all its tests but the first.
+fn decide<'a>(
+    homes: &'a [u8; 1024],
+    boxes: &'a [u8; 1056],
+    binds: &'a [u32; 32],
+    hold: &'a [u8; 1024],
+    stand: &'a [u8; 1536],
+    nstand: usize,
+    lines: &'a [u8; 2560],
+    nlines: usize,
+    arrivals: &'a [u8; 256],
+    narrivals: usize,
+    tuples: &'a [u8; 1536],
+    ntuples: usize,
+    nthreads: usize,
+    th: Thread,
+    guarded: bool,
+    m: usize,
+    r: usize,
+) -> Decision
+    requires { ⌜ Plannable (now lines) nlines (now stand) nstand (now arrivals) narrivals (now tuples) ntuples th × (0 < nthreads) × (nthreads ≤ 64) ⌝ }
+    ensures { λ d. ⌜ ((st : Spec.State) → Tables st (now (lines .entry)) nlines (now (boxes .entry)) (now (binds .entry)) (now (hold .entry)) (now (stand .entry)) nstand (now (arrivals .entry)) narrivals (now (tuples .entry)) ntuples → st .net .homes ≡ now (homes .entry) → Decided guarded st nthreads ntuples th m r d) ⌝ }
 {
-    let told = told_of(v.silent, site, v.target, v.right);
-    let items = state.threads;
-    let kept = settled(items, state.nthreads, k, s.nil, v.thread);
-    let all = entered(kept, s.left, s.more, v.added);
-    let row = v.row;
-    let mut next = state;
-    next.told = told;
-    next.threads = all;
-    next.nthreads = s.threads;
-    change_tuples(&mut next.tuples, state.ntuples, m, v.change, row);
-    next.ntuples = s.tuples;
-    next
-}
-
-// A step of thread k, guarded or bare.
-fn advance(state: State, guarded: bool, k: usize, m: usize, r: usize) -> State
-    requires { ⌜ Fits state ⌝ }
-    ensures { λ next. ⌜ Stepped guarded state k m r next ⌝ }
-{
-    if state.nthreads <= k {
-        return state::refuse(state, 21, 0);
-    }
-    let items = state.threads;
-    let th = items[k];
-    let here = th.site;
     let v = plan::plan(
-        &state.lines,
-        state.nlines,
-        &state.net.boxes,
-        &state.estimate.binds,
-        &state.estimate.hold,
-        &state.estimate.stand,
-        state.estimate.nstand,
-        &state.arrivals,
-        state.narrivals,
-        &state.tuples,
-        state.ntuples,
+        lines,
+        nlines,
+        boxes,
+        binds,
+        hold,
+        stand,
+        nstand,
+        arrivals,
+        narrivals,
+        tuples,
+        ntuples,
         th,
         m,
         r,
     );
-    let s = measure(&state.lines, state.nlines, state.nthreads, state.ntuples, v);
-    let may = allowed(&state.net.homes, th, v.target, v.right);
+    let s = measure(lines, nlines, nthreads, ntuples, v);
+    let may = allowed(homes, th, v.target, v.right);
     let short = lacks(guarded, v.silent, may);
     let fits = room(s.threads, s.tuples);
     let number = refusal(v.stop, short, !fits);
-    if number != 0 {
-        return state::refuse(state, number, 0);
+    Decision {
+        number,
+        plan: v,
+        sizes: s,
     }
-    apply(state, here.0, k, m, v, s)
 }
 
-// Step(k, m, r), bare: the state behind it says what it answers.
-pub fn step(state: State, k: usize, m: usize, r: usize) -> State
+// Step(k, m, r), guarded or bare; the state behind it says what it answers. Guarded, it needs the right in the thread's policy
+// and in the home policy of its site.
+pub fn step(state: State, guarded: bool, k: usize, m: usize, r: usize) -> State
     requires { ⌜ Fits state ⌝ }
-    ensures { λ next. ⌜ Stepped false state k m r next ⌝ }
+    ensures { λ next. ⌜ Stepped guarded state k m r next ⌝ }
 {
-    advance(state, false, k, m, r)
-}
-
-// The same, guarded: it needs the right in the thread's policy and in the home policy of its site.
-pub fn guarded_step(state: State, k: usize, m: usize, r: usize) -> State
-    requires { ⌜ Fits state ⌝ }
-    ensures { λ next. ⌜ Stepped true state k m r next ⌝ }
-{
-    advance(state, true, k, m, r)
+    let mut next = state;
+    let n = state.nthreads;
+    if n <= k {
+        next.told = state::refused(21, 0);
+        return next;
+    }
+    let th = next.threads[k];
+    let nstand = next.estimate.nstand;
+    let nlines = next.nlines;
+    let narrivals = next.narrivals;
+    let ntuples = next.ntuples;
+    let d = decide(
+        &next.net.homes,
+        &next.net.boxes,
+        &next.estimate.binds,
+        &next.estimate.hold,
+        &next.estimate.stand,
+        nstand,
+        &next.lines,
+        nlines,
+        &next.arrivals,
+        narrivals,
+        &next.tuples,
+        ntuples,
+        n,
+        th,
+        guarded,
+        m,
+        r,
+    );
+    let number = d.number;
+    if number != 0 {
+        next.told = state::refused(number, 0);
+        return next;
+    }
+    let v = d.plan;
+    let s = d.sizes;
+    let row = v.row;
+    change_tuples(&mut next.tuples, ntuples, m, v.change, row);
+    next.ntuples = s.tuples;
+    let here = th.site;
+    next.told = state::stepped(v.silent, here.0, v.target, v.right);
+    next.nthreads = s.threads;
+    if s.nil {
+        let items = next.threads;
+        next.threads = threads::remove(items, n, k);
+    } else {
+        let moved = v.thread;
+        next.threads[k] = moved;
+    }
+    if s.more {
+        let left = s.left;
+        let added = v.added;
+        next.threads[left] = added;
+    }
+    next
 }

@@ -3,7 +3,7 @@ use Prim.Native.Nat.{_<_}
 use native.Mathlib.Omega.{arith}
 use lib.ListN.{length}
 use Rattle.state.specs.View.{stateView}
-use Rattle.brings.proofs.Laws.{joined-view, root-more}
+use Rattle.brings.proofs.Laws.{own-kept, joined-view, root-more}
 use borrow.Author.Needs.{needs}
 use Rattle.brings.proofs.joined.Statement.{statement}
 use Rattle.brings.proofs.joined.Tie as tie
@@ -31,7 +31,7 @@ unfolding stateView
 returns c =
     let s = c .before .before .before .before .before in
     let h : s .args .state .narrivals < length (s .args .state .arrivals) = omega (arith, arrivals-long s, s .pre .roots-few, s .pre .some-line, s .pre .few) in
-    (joined-view (s .args .state) _ _ _ (c .append-moved .ensures .1) (root-more _ _ _ h), (refl, refl, refl))
+    (joined-view (s .args .state) _ _ _ _ (own-kept (s .args .state .own) _ _ _ _ _ (s .pre .own-few) (c .append-moved .ensures .1)) (c .append-moved .ensures .1) (root-more _ _ _ h), (refl, refl, refl, refl))
 
 pub joined-spec : {M : Type 1} → statement M
 joined-spec =

@@ -1,7 +1,6 @@
 use mathlib.Core.Path.{_≡_, refl}
 use lib.ListN.{length}
-use Rattle.tables.specs.View.{netView}
-use Rattle.state.specs.View.{stateView}
+use Rattle.state.specs.View.{groundView, stateView}
 use Rattle.plan.proofs.Laws.{guests}
 use Rattle.ready.proofs.Laws.{tables, fits-guests, fits-size}
 use borrow.Author.Needs.{needs}
@@ -28,7 +27,7 @@ answers-requires c κs =
 
 -- src/lib.rt:315:1
 returns : tie.Need-returns
-unfolding stateView netView
+unfolding stateView groundView
 returns c =
     let s = c .before .before .before .before .before .before .before .before in
     c .answers .ensures (stateView (s .args .t1)) (guests (tables (s .args .t1))) refl

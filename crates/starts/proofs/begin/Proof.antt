@@ -1,4 +1,4 @@
-use mathlib.Core.Path.{_≡_, refl, ap, _∙_}
+use mathlib.Core.Path.{_≡_, refl, ap, _∙_, sym}
 use native.Mathlib.Omega.{arith}
 use lib.ListN.{length}
 use Rattle.tables.specs.View.{netView}
@@ -26,7 +26,7 @@ unfolding begunOf
 returns c =
     let e = c .begun .ensures in
     let n : c .begun .result .nthreads ≡ 0 = ap (λ (st : State). st .nthreads) e ∙ c .before .no-threads .ensures .0 in
-    (ap startView e ∙ begun-refused _ _ (c .before .before .if1 .taken), (omega (arith, n), ap (λ (st : State). st .narrivals) e))
+    (ap startView e ∙ begun-refused _ _ (c .before .before .if1 .taken), (omega (arith, n), ap (λ (st : State). st .narrivals) e, ap (λ (st : State). st .own) e ∙ sym (ap (λ (st : State). st .nlines) e)))
 
 root-threads-requires : tie.Need-root-threads-requires
 root-threads-requires c κs =
@@ -46,7 +46,7 @@ returns-2 c =
     let f = c .before .root-threads .ensures in
     let n : c .begun2 .result .nthreads ≡ c .before .root-threads .result .count = ap (λ (st : State). st .nthreads) e in (
       ap startView e ∙ begun-gives (s .args .t1) (c .before .root-threads .result) z (f .1 (netView (s .args .t1 .net)) (s .args .t1 .net .nlines) refl refl (s .pre z)),
-      (omega (arith, n, f .0), ap (λ (st : State). st .narrivals) e),
+      (omega (arith, n, f .0), ap (λ (st : State). st .narrivals) e, ap (λ (st : State). st .own) e ∙ sym (ap (λ (st : State). st .nlines) e)),
     )
 
 pub begin-spec : {M : Type 1} → statement M
