@@ -2,6 +2,7 @@
 //! document 01 and the list of decided readings alone. The proved programs
 //! are compared with it; it shares no code with them.
 
+pub mod cases;
 pub mod engine;
 pub mod flow;
 pub mod listing;

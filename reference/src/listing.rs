@@ -8,20 +8,15 @@ pub const MAX_INPUT: usize = 65_536;
 
 /// Parts a text at its first row `.`; without one the second part is empty.
 pub fn part(text: &[u8]) -> (&[u8], &[u8]) {
-    part_at_dot(text).unwrap_or((text, &[]))
-}
-
-/// The text before and behind the first row `.`, if there is one.
-pub fn part_at_dot(text: &[u8]) -> Option<(&[u8], &[u8])> {
     let mut start = 0;
     while let Some(len) = text[start..].iter().position(|&b| b == b'\n') {
         let end = start + len;
         if &text[start..end] == b"." {
-            return Some((&text[..start], &text[end + 1..]));
+            return (&text[..start], &text[end + 1..]);
         }
         start = end + 1;
     }
-    None
+    (text, &[])
 }
 
 /// The whole listing for one input.

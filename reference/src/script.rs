@@ -2,7 +2,7 @@
 //! and the last state.
 
 use crate::engine::{Done, State};
-use crate::listing::{letters, part, part_at_dot, write_refusal, write_text};
+use crate::listing::{letters, part, write_refusal, write_text};
 use crate::rows::*;
 use std::io::{self, Write};
 
@@ -39,22 +39,46 @@ fn refuse(out: &mut impl Write, refusal: Refusal) -> io::Result<()> {
     out.write_all(&row)
 }
 
+/// A command row, and the arrival behind a row `bring`.
+pub enum Command<'a> {
+    Row(&'a [u8]),
+    Bring(&'a [u8]),
+    /// Bytes behind the last 0A are no row, hence no command.
+    Unended,
+}
+
+/// Takes the next command off `rest`.
+pub fn next_command<'a>(rest: &mut &'a [u8]) -> Option<Command<'a>> {
+    if rest.is_empty() {
+        return None;
+    }
+    let Some(end) = rest.iter().position(|&b| b == b'\n') else {
+        *rest = &[];
+        return Some(Command::Unended);
+    };
+    let row = &rest[..end];
+    *rest = &rest[end + 1..];
+    if row != b"bring" {
+        return Some(Command::Row(row));
+    }
+    let (arrival, behind) = part(rest);
+    *rest = behind;
+    Some(Command::Bring(arrival))
+}
+
+/// The row that a command prints.
+pub fn obey(state: &mut State, command: &Command) -> Vec<u8> {
+    match command {
+        Command::Row(row) => answer(state, row),
+        Command::Bring(arrival) => answer_bring(state, arrival),
+        Command::Unended => b"bad command\n".to_vec(),
+    }
+}
+
 fn run_commands(state: &mut State, commands: &[u8], out: &mut impl Write) -> io::Result<()> {
     let mut rest = commands;
-    while !rest.is_empty() {
-        let Some(end) = rest.iter().position(|&b| b == b'\n') else {
-            // Bytes behind the last 0A are no row, hence no command.
-            return out.write_all(b"bad command\n");
-        };
-        let row = &rest[..end];
-        rest = &rest[end + 1..];
-        if row == b"bring" {
-            let (arrival, behind) = part_at_dot(rest).unwrap_or((rest, &[]));
-            rest = behind;
-            out.write_all(&answer_bring(state, arrival))?;
-        } else {
-            out.write_all(&answer(state, row))?;
-        }
+    while let Some(command) = next_command(&mut rest) {
+        out.write_all(&obey(state, &command))?;
     }
     Ok(())
 }
@@ -71,10 +95,7 @@ fn answer_bring(state: &mut State, arrival: &[u8]) -> Vec<u8> {
 /// The row for a command other than `bring`.
 fn answer(state: &mut State, row: &[u8]) -> Vec<u8> {
     let mut out = Vec::new();
-    let mut fields = row.split(|&b| b == b',');
-    let name = fields.next().unwrap_or_default();
-    let numbers = three_numbers(fields);
-    match (name, numbers) {
+    match name_and_numbers(row) {
         (b"step", Some([k, m, r])) => write_step(&mut out, state.step(k, m, r)),
         (b"guarded", Some([k, m, r])) => write_step(&mut out, state.guarded_step(k, m, r)),
         (b"door", Some([r, l, d])) => match state.door(r, l, d) {
@@ -100,6 +121,13 @@ fn write_step(out: &mut Vec<u8>, result: Result<Done, Refusal>) {
         }
         Err(refusal) => write_refusal(out, refusal),
     }
+}
+
+/// The first field of a row, and its numbers where it has three and no more.
+pub fn name_and_numbers(row: &[u8]) -> (&[u8], Option<[usize; 3]>) {
+    let mut fields = row.split(|&b| b == b',');
+    let name = fields.next().unwrap_or_default();
+    (name, three_numbers(fields))
 }
 
 fn three_numbers<'a>(mut fields: impl Iterator<Item = &'a [u8]>) -> Option<[usize; 3]> {

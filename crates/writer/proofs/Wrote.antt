@@ -6,7 +6,7 @@ use Prim.Native.Nat.{ℕ, _+_, _-_, _<_, _≤_}
 use native.Mathlib.Omega.{arith}
 use native.Mathlib.Numerals.{add-one}
 use native.Mathlib.Nat.{add-zero}
-use lib.ListN.{length, take, drop, set, getD, length-append, length-drop, take-append-drop}
+use lib.ListN.{length, take, drop, set, getD, length-append, length-drop, length-take, take-append-drop}
 use lib.Seq.{length-take-le, take-at, drop-append-add, drop-drop, set-split, append-snoc, take-suc}
 use Rattle.sets.specs.Lists.{_∪_}
 use Rattle.sets.proofs.Lists.{length-union, union-append}
@@ -79,3 +79,11 @@ wrote-more {a} {b} {at} t i h room w = wrote-as bytes (wrote-next (omega arith) 
 
     wrote-next : {c ys : List ℕ} {m n : ℕ} → m ≡ n → Wrote a c at ys m → Wrote a c at ys n
     wrote-next {c} {ys} e v = subst (λ (n : ℕ). Wrote a c at ys n) e v
+
+-- as many bytes as were written
+pub written-count : {a b xs : List ℕ} {next : ℕ} → Wrote a b 0 xs next → next ≡ length (take next b)
+written-count {a} {b} {xs} {next} W = omega (arith, W .room, W .ends, wrote-long W, length-take next b)
+
+-- they lie within the output
+pub written-in : {a b xs : List ℕ} {next : ℕ} → Wrote a b 0 xs next → next ≤ length b
+written-in W = omega (arith, W .room, W .ends, wrote-long W)

@@ -1,5 +1,5 @@
 use borrow.Author.Needs.{needs}
-use Rattle.lotcheck.proofs.Laws.{written-count, written-in}
+use Rattle.writer.proofs.Wrote.{written-count, written-in}
 use Rattle.lotcheck.proofs.main.Statement.{statement}
 use Rattle.lotcheck.proofs.main.Tie as tie
 use Rattle.lotcheck.proofs.main.Reads as reads

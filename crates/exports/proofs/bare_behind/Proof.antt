@@ -1,0 +1,18 @@
+use borrow.Author.Needs.{needs}
+use Rattle.exports.proofs.bare_behind.Statement.{statement}
+use Rattle.exports.proofs.bare_behind.Tie as tie
+
+returns : tie.Need-returns
+returns c = search needs
+
+brought-requires : tie.Need-brought-requires
+brought-requires c κs = c .before .before .before .before .pre (c .if1 .left)
+
+bare-steps-requires : tie.Need-bare-steps-requires
+bare-steps-requires c κs = search needs
+
+returns-2 : tie.Need-returns-2
+returns-2 c = search needs
+
+pub bare-behind-spec : {M : Type 1} → statement M
+bare-behind-spec = tie.close (tie.spec returns brought-requires bare-steps-requires returns-2)

@@ -1,0 +1,359 @@
+//! The public calls on byte slices and numbers, for the timing in `reference/bench`. A state does not leave the library: each engine
+//! call begins from the texts, and does its work `count` times. Proved safe and ending; what is promised stands at the calls themselves.
+ghost use mathlib.Core.Path.{_≡_};
+ghost use Prim.Native.Nat.{_<_, _≤_};
+ghost use lib.ListN.{length};
+ghost use Rattle.state.specs.Fits.{Fits};
+use checker::Answer;
+use ready::DoorAnswer;
+use ready::ReadyAnswer;
+use state::State;
+
+// What is added to the number of a broken T row, of a broken line, of a refusal; accepted is 0.
+const BROKEN_T: u32 = 65536;
+
+const BROKEN_Q: u32 = 131072;
+
+const REFUSED: u32 = 196608;
+
+// What `ready` says of no place, and the door of a closed one; one that passes is 1, a refusal its number.
+const NO_PLACE: u32 = 64;
+
+const CLOSED: u32 = 0;
+
+const PASSES: u32 = 1;
+
+// Bytes of `choices` for one call: three numbers.
+const CHOICE: usize = 3;
+
+// The verdict of check as a number.
+fn coded(answer: Answer) -> u32 {
+    match answer {
+        Answer::Accepted => 0,
+        Answer::BrokenTuple(i) => BROKEN_T + i as u32,
+        Answer::BrokenLine(q) => BROKEN_Q + q as u32,
+        Answer::Refused(number, row) => REFUSED + number as u32,
+    }
+}
+
+// Check: the verdict, and the report written to `report`.
+#[no_mangle]
+pub extern "C" fn salmurkki_check(net: &[u8], estimate: &[u8], report: &mut [u8]) -> u32 {
+    coded(checker::check(net, estimate, report))
+}
+
+// Reads a net and its estimate: the number of the refusal, or 0.
+#[no_mangle]
+pub extern "C" fn salmurkki_read(net: &[u8], estimate: &[u8]) -> u32 {
+    let w = worlds::read_both(net, estimate);
+    w.number as u32
+}
+
+// A byte as a count.
+fn wide(b: u8) -> usize {
+    b as usize
+}
+
+// Byte i of the choices, 0 beyond them.
+fn choice(choices: &[u8], i: usize) -> usize {
+    if i < choices.len() {
+        return wide(choices[i]);
+    }
+    0
+}
+
+// Where the next three numbers begin: behind those at `at`, or at the start again.
+fn turned(at: usize, len: usize) -> usize
+    ensures { λ r. ⌜ r ≤ len ⌝ }
+{
+    if len <= at {
+        return 0;
+    }
+    if len - at < 2 * CHOICE {
+        return 0;
+    }
+    at + CHOICE
+}
+
+// 1 for a call that was not refused.
+fn done(number: u8) -> u32 {
+    if number == 0 {
+        return 1;
+    }
+    0
+}
+
+// The place that is ready, as a number.
+fn placed(answer: ReadyAnswer) -> u32 {
+    match answer {
+        ReadyAnswer::Place(k) => k as u32,
+        ReadyAnswer::None => NO_PLACE,
+    }
+}
+
+// The door's answer as a number.
+fn opened(answer: DoorAnswer) -> u32 {
+    match answer {
+        DoorAnswer::Passes => PASSES,
+        DoorAnswer::Closed => CLOSED,
+        DoorAnswer::Refused(number) => number as u32,
+    }
+}
+
+// The state with an arrival brought; where it is refused, or there is none, the state as it was.
+fn brought(state: State, arrival: &[u8]) -> State
+    requires { ⌜ Fits state ⌝ }
+    ensures { λ next. ⌜ Fits next ⌝ }
+{
+    brings::bring(state, arrival)
+}
+
+// The state behind one bare step for every three of the choices.
+fn prepared(state: State, choices: &[u8]) -> State
+    requires { ⌜ Fits state ⌝ }
+    ensures { λ last. ⌜ Fits last ⌝ }
+{
+    let mut last = state;
+    let mut at: usize = 0;
+    while at < choices.len() {
+        let k = choice(choices, at);
+        let m = choice(choices, at + 1);
+        let r = choice(choices, at + 2);
+        last = step::step(last, k, m, r);
+        at += CHOICE;
+    }
+    last
+}
+
+// Bare steps, each by the next three of the choices: how many of them were performed.
+fn bare_steps(state: State, choices: &[u8], count: usize) -> u32
+    requires { ⌜ Fits state ⌝ }
+{
+    let mut last = state;
+    let mut performed: u32 = 0;
+    let mut at: usize = 0;
+    let mut i: usize = 0;
+    while i < count {
+        let k = choice(choices, at);
+        let m = choice(choices, at + 1);
+        let r = choice(choices, at + 2);
+        last = step::step(last, k, m, r);
+        performed = std::num::wrapping_add_u32(performed, done(last.told.number));
+        at = turned(at, choices.len());
+        i += 1;
+    }
+    performed
+}
+
+// Guarded steps, likewise: how many of them were performed.
+fn guarded_steps(state: State, choices: &[u8], count: usize) -> u32
+    requires { ⌜ Fits state ⌝ }
+{
+    let mut last = state;
+    let mut performed: u32 = 0;
+    let mut at: usize = 0;
+    let mut i: usize = 0;
+    while i < count {
+        let k = choice(choices, at);
+        let m = choice(choices, at + 1);
+        let r = choice(choices, at + 2);
+        last = step::guarded_step(last, k, m, r);
+        performed = std::num::wrapping_add_u32(performed, done(last.told.number));
+        at = turned(at, choices.len());
+        i += 1;
+    }
+    performed
+}
+
+// Asks what is ready: the sum of the places.
+fn ready_times(state: State, count: usize) -> u32
+    requires { ⌜ Fits state ⌝ }
+{
+    let mut sum: u32 = 0;
+    let mut i: usize = 0;
+    while i < count {
+        sum = std::num::wrapping_add_u32(sum, placed(ready::ready(state)));
+        i += 1;
+    }
+    sum
+}
+
+// Tries the door, each time by the next three of the choices (root, site, sandbox): the sum of the answers.
+fn door_times(state: State, choices: &[u8], count: usize) -> u32
+    requires { ⌜ Fits state ⌝ }
+{
+    let mut sum: u32 = 0;
+    let mut at: usize = 0;
+    let mut i: usize = 0;
+    while i < count {
+        let r = choice(choices, at);
+        let l = choice(choices, at + 1);
+        let d = choice(choices, at + 2);
+        sum = std::num::wrapping_add_u32(sum, opened(ready::door(state, r, l, d)));
+        at = turned(at, choices.len());
+        i += 1;
+    }
+    sum
+}
+
+// Brings an arrival to the same state again and again: the last state.
+fn bring_times(state: State, arrival: &[u8], count: usize) -> State
+    requires { ⌜ Fits state ⌝ }
+    ensures { λ last. ⌜ Fits last ⌝ }
+{
+    let mut last = state;
+    let mut i: usize = 0;
+    while i < count {
+        last = brings::bring(state, arrival);
+        i += 1;
+    }
+    last
+}
+
+// Bare steps behind a start and a bring.
+fn bare_behind(state: State, arrival: &[u8], choices: &[u8], count: usize) -> u32
+    requires { ⌜ (state .told .number ≡ 0 → Fits state) ⌝ }
+{
+    if state.told.number != 0 {
+        return REFUSED;
+    }
+    let next = brought(state, arrival);
+    bare_steps(next, choices, count)
+}
+
+// Starts, brings the arrival and makes bare steps.
+#[no_mangle]
+pub extern "C" fn salmurkki_steps(
+    net: &[u8],
+    estimate: &[u8],
+    arrival: &[u8],
+    choices: &[u8],
+    count: usize,
+) -> u32 {
+    let state = starts::start(net, estimate);
+    bare_behind(state, arrival, choices, count)
+}
+
+// Guarded steps behind a start and a bring.
+fn guarded_behind(state: State, arrival: &[u8], choices: &[u8], count: usize) -> u32
+    requires { ⌜ (state .told .number ≡ 0 → Fits state) ⌝ }
+{
+    if state.told.number != 0 {
+        return REFUSED;
+    }
+    let next = brought(state, arrival);
+    guarded_steps(next, choices, count)
+}
+
+// Starts, brings the arrival and makes guarded steps.
+#[no_mangle]
+pub extern "C" fn salmurkki_guarded_steps(
+    net: &[u8],
+    estimate: &[u8],
+    arrival: &[u8],
+    choices: &[u8],
+    count: usize,
+) -> u32 {
+    let state = starts::start(net, estimate);
+    guarded_behind(state, arrival, choices, count)
+}
+
+// The door behind a start and a bring.
+fn door_behind(state: State, arrival: &[u8], choices: &[u8], count: usize) -> u32
+    requires { ⌜ (state .told .number ≡ 0 → Fits state) ⌝ }
+{
+    if state.told.number != 0 {
+        return REFUSED;
+    }
+    let next = brought(state, arrival);
+    door_times(next, choices, count)
+}
+
+// Starts, brings the arrival and tries the door.
+#[no_mangle]
+pub extern "C" fn salmurkki_door(
+    net: &[u8],
+    estimate: &[u8],
+    arrival: &[u8],
+    choices: &[u8],
+    count: usize,
+) -> u32 {
+    let state = starts::start(net, estimate);
+    door_behind(state, arrival, choices, count)
+}
+
+// What is ready behind a start, a bring and some steps.
+fn ready_behind(state: State, arrival: &[u8], choices: &[u8], count: usize) -> u32
+    requires { ⌜ (state .told .number ≡ 0 → Fits state) ⌝ }
+{
+    if state.told.number != 0 {
+        return REFUSED;
+    }
+    let next = brought(state, arrival);
+    ready_times(prepared(next, choices), count)
+}
+
+// Starts, brings the arrival, makes a bare step for every three of the choices, and asks what is ready.
+#[no_mangle]
+pub extern "C" fn salmurkki_ready(
+    net: &[u8],
+    estimate: &[u8],
+    arrival: &[u8],
+    choices: &[u8],
+    count: usize,
+) -> u32 {
+    let state = starts::start(net, estimate);
+    ready_behind(state, arrival, choices, count)
+}
+
+// An arrival brought behind a start, and what is then ready.
+fn bring_behind(state: State, arrival: &[u8], count: usize) -> u32
+    requires { ⌜ (state .told .number ≡ 0 → Fits state) ⌝ }
+{
+    if state.told.number != 0 {
+        return REFUSED;
+    }
+    let last = bring_times(state, arrival, count);
+    placed(ready::ready(last))
+}
+
+// Starts and brings the arrival to the same state again and again; then what is ready.
+#[no_mangle]
+pub extern "C" fn salmurkki_bring(
+    net: &[u8],
+    estimate: &[u8],
+    arrival: &[u8],
+    count: usize,
+) -> u32 {
+    let state = starts::start(net, estimate);
+    bring_behind(state, arrival, count)
+}
+
+// What is ready behind a start.
+fn start_behind(state: State) -> u32
+    requires { ⌜ (state .told .number ≡ 0 → Fits state) ⌝ }
+{
+    if state.told.number != 0 {
+        return REFUSED;
+    }
+    placed(ready::ready(state))
+}
+
+// Starts again and again.
+fn start_times(net: &[u8], estimate: &[u8], count: usize) -> State
+    ensures { λ last. ⌜ (last .told .number ≡ 0 → Fits last) ⌝ }
+{
+    let mut last = starts::start(net, estimate);
+    let mut i: usize = 1;
+    while i < count {
+        last = starts::start(net, estimate);
+        i += 1;
+    }
+    last
+}
+
+// Starts, at least once; then what is ready.
+#[no_mangle]
+pub extern "C" fn salmurkki_start(net: &[u8], estimate: &[u8], count: usize) -> u32 {
+    start_behind(start_times(net, estimate, count))
+}

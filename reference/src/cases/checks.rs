@@ -1,0 +1,336 @@
+//! Checks over generated cases: the fast rules against a plain restatement
+//! of document 01, and what accepted nets promise about steps.
+
+use super::damage::drop_row;
+use super::listings;
+use super::nets::{accepted, widen, Style, LISTING};
+use super::process::BUSY;
+use super::rng::Rng;
+use super::scripts;
+use super::text::{bytes, estimate_rows, net_rows};
+use crate::engine::{Done, State};
+use crate::flow::{self, Broken};
+use crate::rows::*;
+use crate::{listing, script};
+
+const NETS: u64 = 600;
+
+fn sites(mask: Mask) -> Vec<Site> {
+    (0..SITES as u8).map(Site).filter(|s| mask & s.bit() != 0).collect()
+}
+
+/// The place set of a line, found by going up to its root.
+fn place(net: &Net, estimate: &Estimate, q: usize) -> Mask {
+    if let Some(root) = net.roots.iter().find(|root| usize::from(root.line) == q) {
+        return root.site.bit();
+    }
+    let is_parent = |p: &usize| net.lines[*p].children().contains(&Some(q as u8));
+    let parent = (0..q).find(is_parent).expect("every line is named");
+    let above = place(net, estimate, parent);
+    match net.lines[parent] {
+        Line::Eval { target, body, .. } if usize::from(body) == q => {
+            flow::reach(target, above, estimate)
+        }
+        _ => above,
+    }
+}
+
+/// Tries every choice of sites for the fields from `at` on.
+fn all_choices(
+    fields: &Terms,
+    at: usize,
+    row: &mut Tuple,
+    here: Mask,
+    estimate: &Estimate,
+) -> bool {
+    if at == usize::from(fields.len) {
+        return estimate.tuples.contains(row);
+    }
+    sites(flow::reach(fields.items[at], here, estimate)).into_iter().all(|site| {
+        row.fields[at] = site;
+        for field in &mut row.fields[at + 1..] {
+            *field = Site(0);
+        }
+        all_choices(fields, at + 1, row, here, estimate)
+    })
+}
+
+fn plain_out(target: Term, fields: &Terms, here: Mask, estimate: &Estimate) -> bool {
+    // A field whose reach is empty leaves no choice, wherever it stands.
+    let empty = |term: &Term| flow::reach(*term, here, estimate) == 0;
+    fields.slice().iter().any(empty)
+        || sites(flow::reach(target, here, estimate)).into_iter().all(|site| {
+            let mut row = Tuple { site, len: fields.len, ..Tuple::BLANK };
+            all_choices(fields, 0, &mut row, here, estimate)
+        })
+}
+
+fn plain_template(target: Term, fields: &Terms, here: Mask, estimate: &Estimate) -> bool {
+    estimate.tuples.iter().all(|row| {
+        let at_target = sites(flow::reach(target, here, estimate)).contains(&row.site);
+        let pairs = || fields.slice().iter().zip(row.fields());
+        let applies = at_target
+            && row.len == fields.len
+            && pairs().all(|(term, field)| match term {
+                Term::Bind(_) => true,
+                _ => sites(flow::reach(*term, here, estimate)).contains(field),
+            });
+        !applies
+            || pairs().all(|(term, field)| match term {
+                Term::Bind(u) => sites(estimate.binds[u.index()]).contains(field),
+                _ => true,
+            })
+    })
+}
+
+/// d evaluated at l, towards t.
+fn evaluated(net: &Net, sandbox: u8, l: Site, t: usize) -> u8 {
+    let d = &net.sandboxes[usize::from(sandbox)];
+    if t == l.index() {
+        d.towards[t] & d.own
+    } else {
+        d.towards[t]
+    }
+}
+
+fn plain_rule(net: &Net, estimate: &Estimate, q: usize) -> bool {
+    let here = place(net, estimate, q);
+    match &net.lines[q] {
+        Line::Out { target, fields, .. } => plain_out(*target, fields, here, estimate),
+        Line::In { target, fields, .. } | Line::Read { target, fields, .. } => {
+            plain_template(*target, fields, here, estimate)
+        }
+        Line::Eval { target, sandbox, .. } => {
+            let reach = sites(flow::reach(*target, here, estimate));
+            reach.iter().all(|l| {
+                reach.iter().all(|other| {
+                    (0..SITES).all(|t| {
+                        let held = evaluated(net, *sandbox, *other, t);
+                        held & !estimate.rights[l.index()][t] == 0
+                    })
+                })
+            })
+        }
+        _ => true,
+    }
+}
+
+/// The rights on t in the use map of line q, by recursion.
+fn plain_use(net: &Net, estimate: &Estimate, q: usize, t: usize) -> u8 {
+    let here = place(net, estimate, q);
+    let below = |line: u8| plain_use(net, estimate, usize::from(line), t);
+    let on = |target: Term, right: u8| {
+        let reach = sites(flow::reach(target, here, estimate));
+        if reach.iter().any(|s| s.index() == t) {
+            right
+        } else {
+            0
+        }
+    };
+    match net.lines[q] {
+        Line::Nil => 0,
+        Line::Par { next, second } => below(next) | below(second),
+        Line::Rep { next } => below(next),
+        Line::Out { next, target, .. } => on(target, OUT) | below(next),
+        Line::In { next, target, .. } => on(target, IN) | below(next),
+        Line::Read { next, target, .. } => on(target, READ) | below(next),
+        Line::Eval { next, target, .. } => on(target, EVAL) | below(next),
+        Line::Accept { next, sandbox } => {
+            let taken = sites(here).into_iter().map(|l| evaluated(net, sandbox, l, t));
+            on(Term::Own, ACCEPT) | taken.fold(0, |all, rights| all | rights) | below(next)
+        }
+    }
+}
+
+fn plain_report(net: &Net, estimate: &Estimate) -> Vec<u8> {
+    let mut report = vec![0; SITES * SITES];
+    let all = |s: usize| (0..SITES).map(move |t| (s * SITES + t, t));
+    for root in net.roots.iter() {
+        for (byte, t) in all(root.site.index()) {
+            let uses = plain_use(net, estimate, usize::from(root.line), t);
+            report[byte] |= uses & !net.home[root.site.index()][t];
+        }
+    }
+    for (q, line) in net.lines.iter().enumerate() {
+        let Line::Eval { target, body, sandbox, .. } = *line else { continue };
+        let reach = sites(flow::reach(target, place(net, estimate, q), estimate));
+        for subject in &reach {
+            for (byte, t) in all(subject.index()) {
+                let held = reach.iter().map(|l| evaluated(net, sandbox, *l, t));
+                let sure = held.fold(u8::MAX, |all, rights| all & rights);
+                report[byte] |= plain_use(net, estimate, usize::from(body), t) & !sure;
+            }
+        }
+    }
+    for s in 0..usize::from(net.sites) {
+        all(s).for_each(|(byte, t)| report[byte] |= estimate.rights[s][t] & !net.home[s][t]);
+    }
+    report
+}
+
+#[test]
+fn rules_and_report_agree_with_the_plain_ones() {
+    let (mut broken, mut whole) = (0, 0);
+    for seed in 0..NETS {
+        let rng = &mut Rng::new(seed);
+        let (net, mut estimate) = accepted(rng, &Style { max_lines: 30, ..LISTING });
+        if net.lines.len() > 80 {
+            continue;
+        }
+        match seed % 3 {
+            0 => drop_row(rng, &mut estimate),
+            1 => widen(rng, &net, &mut estimate),
+            _ => {}
+        }
+        let places = flow::net_places(&net, &estimate);
+        let tuple = net.tuples.iter().position(|t| !estimate.tuples.contains(t));
+        let line = (0..net.lines.len()).find(|&q| !plain_rule(&net, &estimate, q));
+        let expected = tuple.map(Broken::Tuple).or(line.map(Broken::Line));
+        assert_eq!(flow::first_broken(&net, &estimate, &places), expected, "seed {seed}");
+        if expected.is_none() {
+            whole += 1;
+            let report = flow::report(&net, &estimate, &places);
+            assert_eq!(report[..], plain_report(&net, &estimate)[..], "seed {seed}");
+        } else {
+            broken += 1;
+        }
+    }
+    assert!(broken > 50 && whole > 100);
+}
+
+/// The door by its definition, for the arrival in lines r to `end`.
+fn plain_door(state: &State, r: usize, end: usize, l: Site, d: u8) -> bool {
+    let estimate = &state.estimate;
+    let mut net = state.net.clone();
+    net.roots = List::filled(Root { site: l, line: r as u8 });
+    net.roots.push(Root { site: l, line: r as u8 });
+    let adds_nothing = |q: usize| {
+        let Line::Eval { target, body, sandbox, .. } = net.lines[q] else { return true };
+        let reach = sites(flow::reach(target, place(&net, estimate, q), estimate));
+        reach.iter().all(|other| {
+            (0..SITES).all(|t| {
+                let uses = plain_use(&net, estimate, usize::from(body), t);
+                uses & !evaluated(&net, sandbox, *other, t) == 0
+            })
+        })
+    };
+    (r..end).all(|q| plain_rule(&net, estimate, q) && adds_nothing(q))
+        && (0..SITES).all(|t| plain_use(&net, estimate, r, t) & !evaluated(&net, d, l, t) == 0)
+}
+
+#[test]
+fn door_agrees_with_the_plain_one() {
+    let style = Style { weights: BUSY, max_lines: 20, sandbox_rows: 8, widened: 90, ..LISTING };
+    let (mut passed, mut closed) = (0, 0);
+    for seed in 0..NETS / 6 {
+        let rng = &mut Rng::new(seed);
+        let (net, estimate) = accepted(rng, &style);
+        let texts = (bytes(&net_rows(&net)), bytes(&estimate_rows(&estimate)));
+        let mut state = State::start(&texts.0, &texts.1).unwrap();
+        for _ in 0..4 {
+            scripts::bring_friendly(rng, &mut state);
+        }
+        let mut ends: Vec<usize> =
+            state.arrivals.iter().skip(1).map(|arrival| usize::from(arrival.root)).collect();
+        ends.push(state.net.lines.len());
+        for (arrival, end) in state.arrivals.iter().zip(ends) {
+            let r = usize::from(arrival.root);
+            for (l, d) in (0..state.net.sites.min(6)).flat_map(|l| (0..4).map(move |d| (l, d))) {
+                let door = state.door(r, usize::from(l), usize::from(d));
+                let expected = plain_door(&state, r, end, Site(l), d);
+                assert_eq!(door, Ok(expected), "seed {seed}, door {r} {l} {d}");
+                *if expected { &mut passed } else { &mut closed } += 1;
+            }
+        }
+    }
+    assert!(passed > 300 && closed > 300);
+}
+
+#[test]
+fn texts_are_read_back() {
+    for seed in 0..NETS {
+        let (net, estimate) = accepted(&mut Rng::new(seed), &LISTING);
+        let (mut net_read, mut estimate_read) = (Net::empty(), Estimate::empty());
+        let texts = (bytes(&net_rows(&net)), bytes(&estimate_rows(&estimate)));
+        let read = flow::read_both(&texts.0, &texts.1, &mut net_read, &mut estimate_read);
+        assert_eq!(read, Ok(()), "seed {seed}");
+        assert_eq!((net_read, estimate_read), (net, estimate), "seed {seed}");
+    }
+}
+
+/// Every tuple and every binding is within the estimate.
+fn state_is_within(state: &State) -> bool {
+    let bound = |thread: &crate::engine::Thread| {
+        (0..VARS as u8).map(Var).all(|u| match thread.bindings.get(u) {
+            Some(site) => state.estimate.binds[u.index()] & site.bit() != 0,
+            None => true,
+        })
+    };
+    state.tuples.iter().all(|tuple| state.estimate.tuples.contains(tuple))
+        && state.threads.iter().all(bound)
+}
+
+/// What demand 3 says of accepted nets: a performed step that the policies
+/// forbid is in the report, and all stays within the estimate.
+#[test]
+fn forbidden_steps_are_reported() {
+    let style = Style { weights: BUSY, sandbox_rows: 6, widened: 80, ..LISTING };
+    let (mut performed, mut forbidden) = (0, 0);
+    for seed in 0..NETS {
+        let rng = &mut Rng::new(seed);
+        let (net, estimate) = accepted(rng, &style);
+        let report = flow::report(&net, &estimate, &flow::net_places(&net, &estimate));
+        let texts = (bytes(&net_rows(&net)), bytes(&estimate_rows(&estimate)));
+        let mut state = State::start(&texts.0, &texts.1).unwrap();
+        for turn in 0..120 {
+            if turn % 15 == 0 {
+                scripts::bring_friendly(rng, &mut state);
+            }
+            let Some((k, m, r)) = scripts::performing_step(rng, &state, false) else {
+                continue;
+            };
+            let permitted = state.judge(true, k, m, r).is_ok();
+            if let Ok(Done::Acted { site, target, right }) = state.step(k, m, r) {
+                performed += 1;
+                forbidden += usize::from(!permitted);
+                let listed = report[site.index() * SITES + target.index()] & right != 0;
+                assert!(permitted || listed, "seed {seed}, turn {turn}");
+            }
+            assert!(state_is_within(&state), "seed {seed}, turn {turn}");
+        }
+    }
+    assert!(performed > 2000 && forbidden > 200);
+}
+
+fn refusals(out: &[u8], seen: &mut [usize; 32]) {
+    for row in String::from_utf8_lossy(out).lines() {
+        let mut fields = row.split(',');
+        if fields.next() == Some("refused") {
+            let number: usize = fields.next().unwrap().parse().unwrap();
+            seen[number] += 1;
+        }
+    }
+}
+
+#[test]
+fn every_number_is_met() {
+    let mut seen = [0; 32];
+    for seed in 0..NETS {
+        refusals(&listing::list(&listings::case(&mut Rng::new(seed))), &mut seen);
+    }
+    assert!((1..=8).all(|number| seen[number] > 2), "{seen:?}");
+    let mut seen = [0; 32];
+    for seed in 0..NETS / 4 {
+        refusals(&script::run(&scripts::case(&mut Rng::new(seed))), &mut seen);
+    }
+    assert!((1..=8).chain(21..=27).all(|number| seen[number] > 2), "{seen:?}");
+}
+
+#[test]
+fn cases_depend_on_the_seed_alone() {
+    for seed in 0..20 {
+        let twice =
+            |make: fn(&mut Rng) -> Vec<u8>| make(&mut Rng::new(seed)) == make(&mut Rng::new(seed));
+        assert!(twice(listings::case) && twice(scripts::case));
+    }
+}

@@ -1,0 +1,270 @@
+//! What cases cover: a count for each thing that is seen to happen in them.
+
+use super::required::{required, Wanted};
+use super::Kind;
+use crate::engine::{State, MAX_THREADS};
+use crate::flow::{first_broken, net_places, reach, report, Broken};
+use crate::listing::{self, part};
+use crate::rows::*;
+use crate::script::{self, Command};
+use std::collections::{BTreeMap, BTreeSet};
+
+/// One thing seen, and the row that it names (else 0).
+pub struct Seen {
+    pub name: String,
+    pub row: usize,
+}
+
+/// The counts, and the different rows that were named.
+#[derive(Default)]
+pub struct Cover {
+    counts: BTreeMap<String, usize>,
+    rows: BTreeMap<String, BTreeSet<usize>>,
+}
+
+impl Cover {
+    pub fn add(&mut self, seen: &[Seen]) {
+        for thing in seen {
+            *self.counts.entry(thing.name.clone()).or_default() += 1;
+            if thing.row > 0 {
+                self.rows.entry(thing.name.clone()).or_default().insert(thing.row);
+            }
+        }
+    }
+
+    pub fn count(&self, name: &str) -> usize {
+        self.counts.get(name).copied().unwrap_or(0)
+    }
+
+    /// A row for each thing: how often, and at how many different rows.
+    pub fn table(&self) -> String {
+        let mut table = String::new();
+        for (name, count) in &self.counts {
+            table += &format!("{count:7}  {name}");
+            if let Some(rows) = self.rows.get(name) {
+                table += &format!(" ({} different rows)", rows.len());
+            }
+            table.push('\n');
+        }
+        table
+    }
+
+    /// What is seen less often, or at fewer different rows, than it must be.
+    pub fn missing(&self, kind: Kind) -> Vec<String> {
+        let rows = |name: &str| self.rows.get(name).map_or(0, BTreeSet::len);
+        let lacks = |wanted: &Wanted| {
+            self.count(&wanted.name) < wanted.least || rows(&wanted.name) < wanted.rows
+        };
+        required(kind).into_iter().filter(lacks).map(|wanted| wanted.name).collect()
+    }
+}
+
+/// All that is seen in a case, a thing as often as it happens.
+pub fn seen(kind: Kind, case: &[u8]) -> Vec<Seen> {
+    let mut watcher = Watcher { seen: vec![] };
+    match kind {
+        Kind::Listing => watcher.listing(case),
+        Kind::Script => watcher.script(case),
+    }
+    watcher.seen
+}
+
+struct Watcher {
+    seen: Vec<Seen>,
+}
+
+impl Watcher {
+    fn note(&mut self, name: impl Into<String>) {
+        self.note_row(name, 0);
+    }
+
+    fn note_row(&mut self, name: impl Into<String>, row: usize) {
+        self.seen.push(Seen { name: name.into(), row });
+    }
+
+    fn listing(&mut self, case: &[u8]) {
+        if case.len().abs_diff(listing::MAX_INPUT) <= 1 {
+            self.note(format!("input of {} bytes", case.len()));
+        }
+        if case.len() > listing::MAX_INPUT {
+            return;
+        }
+        let (net_text, estimate_text) = part(case);
+        let (mut net, mut estimate) = (Net::empty(), Estimate::empty());
+        if let Err(refusal) = read_net(net_text, &mut net) {
+            return self.refused("net", net_text, refusal);
+        }
+        if let Err(refusal) = read_estimate(estimate_text, net.sites, &mut estimate) {
+            return self.refused("estimate", estimate_text, refusal);
+        }
+        self.limits(&net, &estimate);
+        let places = net_places(&net, &estimate);
+        // A line whose target may be several sites.
+        let several = |q: usize| match net.lines[q] {
+            Line::Out { target, .. }
+            | Line::In { target, .. }
+            | Line::Read { target, .. }
+            | Line::Eval { target, .. } => reach(target, places[q], &estimate).count_ones() > 1,
+            _ => false,
+        };
+        match first_broken(&net, &estimate, &places) {
+            Some(Broken::Tuple(_)) => self.note("broken: T"),
+            Some(Broken::Line(q)) => self.line("broken", &net.lines[q], several(q)),
+            None => {
+                let empty = report(&net, &estimate, &places).iter().all(|&rights| rights == 0);
+                let verdict = if empty { "report empty" } else { "report not empty" };
+                self.note(format!("accepted: {verdict}"));
+                for q in (0..net.lines.len()).filter(|&q| several(q)) {
+                    self.line("accepted", &net.lines[q], true);
+                }
+            }
+        }
+    }
+
+    fn line(&mut self, verdict: &str, line: &Line, several: bool) {
+        let what = format!("{verdict}: Q {}", word(line));
+        if several {
+            self.note(format!("{what} towards several sites"));
+        }
+        self.note(what);
+    }
+
+    /// A text refused: by number, and by the group of the row named.
+    fn refused(&mut self, part: &str, text: &[u8], refusal: Refusal) {
+        let Refusal { number, row } = refusal;
+        self.note_row(format!("{part}: refused {number}"), row);
+        let rows: Vec<&[u8]> = text.split(|&b| b == b'\n').collect();
+        let Some(named) = row.checked_sub(1).and_then(|at| rows.get(at)) else {
+            return;
+        };
+        let Some(&letter) = named.first().filter(|letter| b"NRDTLQBAE".contains(letter)) else {
+            return;
+        };
+        self.note(format!("{part}: refused {number} at {}", char::from(letter)));
+        let line = named.split(|&b| b == b',').nth(2).unwrap_or_default();
+        if let Some(word) = WORDS.iter().find(|word| letter == b'Q' && word.as_bytes() == line) {
+            self.note(format!("{part}: refused {number} at Q {word}"));
+        }
+        let above = rows[..row - 1].iter().filter(|other| other.first() == Some(&letter)).count();
+        let limits = [(b'T', MAX_TUPLES), (b'A', MAX_TUPLES), (b'L', MAX_ROOTS), (b'Q', MAX_LINES)];
+        if number == OVER_LIMIT && limits.contains(&(letter, above)) {
+            self.note(format!("{part}: one row of {} too many", char::from(letter)));
+        }
+    }
+
+    fn limits(&mut self, net: &Net, estimate: &Estimate) {
+        let counts = [
+            (usize::from(net.sites), "sites", [1, SITES]),
+            (net.tuples.len(), "T rows", [MAX_TUPLES - 1, MAX_TUPLES]),
+            (net.roots.len(), "L rows", [MAX_ROOTS - 1, MAX_ROOTS]),
+            (net.lines.len(), "Q rows", [MAX_LINES - 1, MAX_LINES]),
+            (estimate.tuples.len(), "A rows", [MAX_TUPLES - 1, MAX_TUPLES]),
+        ];
+        for (count, what, edges) in counts {
+            if edges.contains(&count) {
+                self.note(format!("taken: {count} {what}"));
+            }
+        }
+    }
+
+    fn script(&mut self, case: &[u8]) {
+        let (net_text, rest) = part(case);
+        let (estimate_text, mut commands) = part(rest);
+        let mut state = match State::start(net_text, estimate_text) {
+            Ok(state) => state,
+            Err(refusal) => return self.note(format!("start: refused {}", refusal.number)),
+        };
+        self.note("start: taken");
+        let mut taken_in = BTreeSet::new();
+        while let Some(command) = script::next_command(&mut commands) {
+            let before = state.clone();
+            let answer = script::obey(&mut state, &command);
+            let answer = String::from_utf8_lossy(&answer);
+            self.command(&before, &state, &command, answer.trim_end(), &mut taken_in);
+        }
+    }
+
+    fn command(
+        &mut self,
+        before: &State,
+        after: &State,
+        command: &Command,
+        answer: &str,
+        taken_in: &mut BTreeSet<usize>,
+    ) {
+        let fields: Vec<&str> = answer.split(',').collect();
+        let (name, numbers) = match command {
+            Command::Bring(_) => ("bring", None),
+            Command::Row(b"ready") => ("ready", None),
+            Command::Row(row) => {
+                let (name, numbers) = script::name_and_numbers(row);
+                (std::str::from_utf8(name).unwrap_or_default(), numbers)
+            }
+            Command::Unended => ("", None),
+        };
+        match (name, numbers, &fields[..]) {
+            (_, _, ["bad command"]) => self.note("bad command"),
+            ("bring" | "door", _, ["refused", number, _]) => {
+                self.note(format!("{name}: refused {number}"));
+            }
+            ("bring", ..) => self.note("bring: taken"),
+            ("door", ..) => self.note(format!("door: {answer}")),
+            ("ready", _, [_, place]) => {
+                self.note(if *place == "none" { "ready: none" } else { "ready: a place" });
+            }
+            (_, Some([k, _, r]), _) => {
+                self.step(name, before, k, &fields);
+                if fields[0] == "performed" && fields[3] == "a" && !taken_in.insert(r) {
+                    self.note("accept: an arrival taken in again");
+                }
+                self.lists(before, after);
+            }
+            _ => {}
+        }
+    }
+
+    fn step(&mut self, name: &str, before: &State, k: usize, fields: &[&str]) {
+        let Some(thread) = before.threads.get(k) else {
+            return self.note(format!("{name}: refused {}", fields[1]));
+        };
+        let line = &before.net.lines[usize::from(thread.line)];
+        if fields[0] == "refused" {
+            return self.note(format!("{name} {}: refused {}", word(line), fields[1]));
+        }
+        self.note(format!("{name} {}: performed", word(line)));
+        if let Line::In { fields, .. } | Line::Read { fields, .. } = line {
+            let bound =
+                |u: u8| fields.binds() & Var(u).bit() != 0 && thread.bindings.get(Var(u)).is_some();
+            if (0..VARS as u8).any(bound) {
+                self.note("a variable bound anew");
+            }
+        }
+    }
+
+    fn lists(&mut self, before: &State, after: &State) {
+        if after.threads.len() < before.threads.len() {
+            self.note("a thread ended");
+        }
+        if after.threads.len() == MAX_THREADS && before.threads.len() < MAX_THREADS {
+            self.note("64 threads");
+        }
+        if after.tuples.len() == MAX_TUPLES && before.tuples.len() < MAX_TUPLES {
+            self.note("256 tuples");
+        }
+    }
+}
+
+const WORDS: [&str; 8] = ["nil", "par", "rep", "out", "in", "read", "eval", "accept"];
+
+fn word(line: &Line) -> &'static str {
+    match line {
+        Line::Nil => "nil",
+        Line::Par { .. } => "par",
+        Line::Rep { .. } => "rep",
+        Line::Out { .. } => "out",
+        Line::In { .. } => "in",
+        Line::Read { .. } => "read",
+        Line::Eval { .. } => "eval",
+        Line::Accept { .. } => "accept",
+    }
+}

@@ -1,0 +1,367 @@
+//! Named inputs for timing: the large net, hostile nets, and nets whose steps
+//! come back to the same state.
+
+use super::Kind;
+use crate::listing::{part, MAX_INPUT};
+use crate::rows::*;
+
+/// Texts, an arrival, and steps as threes of bytes (k, m, r).
+pub struct Heavy {
+    pub name: &'static str,
+    pub net: Vec<u8>,
+    pub estimate: Vec<u8>,
+    pub arrival: Vec<u8>,
+    pub choices: Vec<u8>,
+}
+
+/// A seed whose net of 32 sites and 256 lines is accepted, with 256 A rows
+/// and every B and E row in its estimate.
+const LARGE_SEED: u64 = 478;
+
+/// Net M and its estimate.
+pub const NET: &str =
+    "N,6\nR,s0,s0,i\nR,s0,s1,e\nR,s1,s0,o\nR,s1,s2,oir\nD,0,s0,o\nD,0,s2,r\nD,1,s2,or\n\
+    T,s2,s3,s4\nT,s2,s3,s5\nL,s0,0\nL,s1,6\nQ,0,eval,1,s1,3,0\nQ,1,in,2,self,!u0\nQ,2,nil\n\
+    Q,3,read,4,s2,s3,!u1\nQ,4,out,5,s0,u1\nQ,5,nil\nQ,6,accept,7,1\nQ,7,nil\n";
+pub const ESTIMATE: &str = "B,u0,s4\nB,u0,s5\nB,u1,s4\nB,u1,s5\nA,s0,s4\nA,s0,s5\nA,s2,s3,s4\n\
+    A,s2,s3,s5\nE,s1,s0,o\nE,s1,s2,r\n";
+
+/// Binds u0 to u3, and asks for nothing: no tuple stands at s31.
+const BINDER: &str = "read,1,s31,!u0,!u1,!u2,!u3";
+
+impl Heavy {
+    fn new(name: &'static str, net: String, estimate: String) -> Heavy {
+        let (net, estimate) = (net.into_bytes(), estimate.into_bytes());
+        Heavy { name, net, estimate, arrival: vec![], choices: vec![] }
+    }
+
+    fn with_arrival(self, arrival: String) -> Heavy {
+        Heavy { arrival: arrival.into_bytes(), ..self }
+    }
+
+    fn with_choices(self, choices: &[[u8; 3]]) -> Heavy {
+        Heavy { choices: choices.concat(), ..self }
+    }
+
+    /// The input as one for `lotcheck`, or, with an arrival or steps, as one
+    /// for `lotrun`.
+    pub fn input(&self) -> Vec<u8> {
+        let mut text = [&self.net[..], b".\n", &self.estimate[..]].concat();
+        if !self.arrival.is_empty() || !self.choices.is_empty() {
+            text.extend_from_slice(b".\nbring\n");
+            text.extend_from_slice(&self.arrival);
+            text.extend_from_slice(b".\n");
+        }
+        for step in self.choices.chunks(3) {
+            text.extend_from_slice(
+                format!("step,{},{},{}\n", step[0], step[1], step[2]).as_bytes(),
+            );
+        }
+        text
+    }
+}
+
+fn numbered(lines: &[String]) -> String {
+    lines.iter().enumerate().map(|(q, line)| format!("Q,{q},{line}\n")).collect()
+}
+
+/// The rows of `letter` for every pair of two counts.
+fn pairs(firsts: usize, seconds: usize, row: impl Fn(usize, usize) -> String) -> String {
+    (0..firsts).flat_map(|a| (0..seconds).map(move |b| (a, b))).map(|(a, b)| row(a, b)).collect()
+}
+
+fn binds(sizes: &[usize]) -> String {
+    let row = |(u, &size): (usize, &usize)| -> String {
+        (0..size).map(|s| format!("B,u{u},s{s}\n")).collect()
+    };
+    sizes.iter().enumerate().map(row).collect()
+}
+
+/// 256 rows, every choice of the first four sites for four places.
+fn four_by_four(letter: char) -> String {
+    let row =
+        |a: usize, b: usize| format!("{letter},s{},s{},s{},s{},s7\n", a / 4, a % 4, b / 4, b % 4);
+    pairs(16, 16, row)
+}
+
+/// A binder, then one line up to 242 times, then nil.
+fn repeated(name: &'static str, line: impl Fn(usize) -> String, estimate: String) -> Heavy {
+    let mut lines = vec![BINDER.to_string()];
+    lines.extend((2..244).map(line));
+    lines.push("nil".to_string());
+    Heavy::new(name, format!("N,32\nL,s30,0\n{}", numbered(&lines)), estimate)
+}
+
+/// Sandbox 0 with every right everywhere, and E rows with every right.
+fn open_sandbox() -> (String, String) {
+    let towards: String = (0..SITES).map(|t| format!("D,0,s{t},oirea\n")).collect();
+    let rights = pairs(SITES, SITES, |s, t| format!("E,s{s},s{t},oirea\n"));
+    (towards + "D,0,self,oirea\n", rights)
+}
+
+/// Lines behind a binder, with sandbox 0 open and u0 to u3 full.
+fn open_net(name: &'static str, lines: &[String]) -> Heavy {
+    let (sandbox, rights) = open_sandbox();
+    let net = format!("N,32\n{sandbox}L,s30,0\n{}", numbered(lines));
+    Heavy::new(name, net, binds(&[SITES; 4]) + &rights)
+}
+
+fn evals() -> Heavy {
+    let mut lines = vec![BINDER.to_string()];
+    lines.extend((0..120).map(|i| format!("eval,{},u0,{},0", i + 2, i + 122)));
+    lines.extend((0..121).map(|_| "nil".to_string()));
+    open_net("120 evals over full variables", &lines)
+}
+
+fn nested_evals() -> Heavy {
+    let mut lines = vec![BINDER.to_string()];
+    for at in (1..255).step_by(2) {
+        lines.push(format!("eval,{},u0,{},0", at + 1, at + 2));
+        lines.push("nil".to_string());
+    }
+    lines.push("nil".to_string());
+    open_net("127 nested evals", &lines)
+}
+
+fn accepts() -> Heavy {
+    let mut lines: Vec<String> = (1..256).map(|next| format!("accept,{next},0")).collect();
+    lines.push("nil".to_string());
+    open_net("255 accepts", &lines)
+}
+
+fn wide_accepts() -> Heavy {
+    let mut lines = vec![BINDER.to_string(), "eval,2,u0,3,0".to_string(), "nil".to_string()];
+    lines.extend((4..256).map(|next| format!("accept,{next},0")));
+    lines.push("nil".to_string());
+    open_net("252 accepts at 32 sites", &lines)
+}
+
+/// T and A rows that differ only in their last fields.
+fn alike() -> Heavy {
+    let rows = |letter: char| pairs(16, 16, |a, b| format!("{letter},s0,s0,s0,s{a},s{b}\n"));
+    Heavy::new("256 T and A rows alike", format!("N,32\n{}", rows('T')), rows('A'))
+}
+
+/// The input of a listing seed.
+fn seeded(name: &'static str, seed: u64) -> Heavy {
+    let case = Kind::Listing.case(seed);
+    let (net, estimate) = part(&case);
+    Heavy { name, net: net.to_vec(), estimate: estimate.to_vec(), arrival: vec![], choices: vec![] }
+}
+
+/// The first input of 65,536 bytes that is read.
+fn full() -> Heavy {
+    let read = |heavy: &Heavy| {
+        let (mut net, mut estimate) = (Net::empty(), Estimate::empty());
+        crate::flow::read_both(&heavy.net, &heavy.estimate, &mut net, &mut estimate).is_ok()
+    };
+    let sized = |seed: &u64| Kind::Listing.case(*seed).len() == MAX_INPUT;
+    let found = (1..).filter(sized).map(|seed| seeded("65,536 bytes", seed)).find(read);
+    found.expect("some seed is such")
+}
+
+pub fn march() -> Heavy {
+    Heavy::new("net M", NET.to_string(), ESTIMATE.to_string())
+}
+
+pub fn large() -> Heavy {
+    seeded("large net", LARGE_SEED)
+}
+
+/// The inputs of check.
+pub fn checks() -> Vec<Heavy> {
+    let fields = "u0,u1,u2,u3,s7";
+    let rows = four_by_four('A');
+    let outs = |next: usize| format!("out,{next},{fields}");
+    let ins = |next: usize| format!("in,{next},u0,u1,u2,!u3,!u4");
+    vec![
+        march(),
+        large(),
+        full(),
+        repeated("242 outs, 256 choices each", outs, binds(&[4; 4]) + &rows),
+        repeated("242 outs, one reach empty", outs, binds(&[32, 32, 32, 0]) + &rows),
+        repeated("242 ins over full variables", ins, binds(&[32; 5]) + &rows),
+        evals(),
+        nested_evals(),
+        accepts(),
+        wide_accepts(),
+        alike(),
+    ]
+}
+
+/// A net with a thread that waits at each place below 20, 100 tuples, and at
+/// place 20 a thread `rep` over the lines given, which are numbered from 41
+/// on. A child of it stands at place 21.
+fn cycle(name: &'static str, lines: &[&str], choices: &[[u8; 3]]) -> Heavy {
+    let mut net = "N,8\nR,s1,s0,r\nR,s1,s2,oire\nD,0,s0,r\n".to_string();
+    net += &(0..100)
+        .map(|i| format!("T,s0,s{},s{},s{}\n", i / 25, i / 5 % 5, i % 5))
+        .collect::<String>();
+    net += &(0..20).map(|i| format!("L,s{},{}\n", i % 8, 2 * i)).collect::<String>();
+    net += "L,s1,40\n";
+    let mut all = Vec::new();
+    for i in 0..20 {
+        all.extend([format!("in,{},s0,!u0,!u1,s7", 2 * i + 1), "nil".to_string()]);
+    }
+    all.push("rep,41".to_string());
+    all.extend(lines.iter().map(|line| line.to_string()));
+    Heavy::new(name, net + &numbered(&all), String::new()).with_choices(choices)
+}
+
+/// Steps that come back to the state they began from.
+pub fn cycles() -> Vec<Heavy> {
+    let (rep, next) = ([20, 0, 0], [21, 0, 0]);
+    let (last, some) = ([21, 100, 0], [21, 50, 0]);
+    let out = "out,42,s2,s3,self";
+    vec![
+        cycle("rep, par", &["par,42,43", "nil", "nil"], &[rep, next]),
+        cycle("rep, eval", &["eval,42,s2,43,0", "nil", "nil"], &[rep, next]),
+        cycle("rep, read", &["read,42,s0,!u1,!u2,!u3", "nil"], &[rep, some]),
+        cycle("rep, out, in", &[out, "in,43,s2,s3,!u2", "nil"], &[rep, next, last]),
+        mixed(),
+        cycle("rep, accept, read", &["accept,42,0", "nil"], &[rep, [21, 0, 43], some])
+            .with_arrival("Q,0,read,1,s0,!u1,!u2,!u3\nQ,1,nil\n".to_string()),
+    ]
+}
+
+/// Every line but accept.
+pub fn mixed() -> Heavy {
+    let lines = [
+        "out,42,s2,s3,self",
+        "read,43,s2,s3,!u2",
+        "in,44,s2,!u3,u2",
+        "eval,45,s2,46,0",
+        "par,47,48",
+        "nil",
+        "nil",
+        "nil",
+    ];
+    let (next, last) = ([21, 0, 0], [21, 100, 0]);
+    let choices = [[20, 0, 0], next, last, [21, 100, 0], next, next];
+    cycle("rep, out, read, in, eval, par", &lines, &choices)
+}
+
+/// Steps that are refused.
+pub fn refusals() -> Vec<Heavy> {
+    let at = |name, choice: [u8; 3]| mixed().renamed(name).with_choices(&[choice]);
+    vec![at("refused 21", [63, 0, 0]), at("refused 23", [0, 50, 0])]
+}
+
+/// An arrival of `count` lines with a rule to be judged for each. The door
+/// is closed to it for its last line alone, or open.
+fn long_arrival(count: usize, passes: bool) -> String {
+    let mut lines = vec![BINDER.to_string()];
+    let outs = count - 5;
+    lines.extend((2..outs + 2).map(|next| format!("out,{next},u0,u1,u2,u3,s7")));
+    // Sandbox 0 has every right, sandbox 1 none.
+    let sandbox = if passes { 0 } else { 1 };
+    lines.push(format!("eval,{},s0,{},{sandbox}", outs + 2, outs + 3));
+    lines.push("nil".to_string());
+    lines.push(format!("read,{},s30,s0", outs + 4));
+    lines.push("nil".to_string());
+    numbered(&lines)
+}
+
+/// The estimate of a long arrival.
+fn long_estimate() -> String {
+    let rights: String = (0..SITES).map(|t| format!("E,s0,s{t},oirea\n")).collect();
+    binds(&[4; 4]) + &four_by_four('A') + &rights
+}
+
+/// The lists are full, 63 threads stand on accept at 32 sites, and the door
+/// stays closed to an arrival of 250 lines.
+pub fn closed_doors() -> Heavy {
+    let (sandbox, _) = open_sandbox();
+    let tuples: String = (0..SITES).map(|s| format!("T,s0,s{s}\n")).collect();
+    let net = format!(
+        "N,32\n{sandbox}{tuples}L,s0,0\nQ,0,rep,1\nQ,1,read,2,s0,!u9\nQ,2,eval,3,u9,4,0\nQ,3,nil\n\
+         Q,4,accept,5,0\nQ,5,nil\n"
+    );
+    let mut choices = Vec::new();
+    for i in 0..63 {
+        choices.extend([[0, 0, 0], [i + 1, i % 32, 0], [i + 1, 0, 0]]);
+    }
+    let heavy = Heavy::new("63 accepts, 250 lines, door closed", net, long_estimate());
+    heavy.with_arrival(long_arrival(250, false)).with_choices(&choices)
+}
+
+/// A thread on accept, and an arrival of 254 lines that it is asked to take.
+pub fn arrived(passes: bool) -> Heavy {
+    let (sandbox, _) = open_sandbox();
+    let net = format!("N,32\n{sandbox}L,s0,0\nQ,0,accept,1,0\nQ,1,nil\n");
+    let name = if passes { "254 lines, door open" } else { "accept, 254 lines, door closed" };
+    let heavy = Heavy::new(name, net, long_estimate());
+    heavy.with_arrival(long_arrival(254, passes)).with_choices(&[[0, 0, 2]])
+}
+
+/// Every named input.
+pub fn all() -> Vec<Heavy> {
+    let mut all = checks();
+    all.extend(cycles());
+    all.extend([closed_doors(), arrived(false), arrived(true)]);
+    all
+}
+
+impl Heavy {
+    fn renamed(self, name: &'static str) -> Heavy {
+        Heavy { name, ..self }
+    }
+}
+
+#[cfg(test)]
+mod tests {
+    use super::*;
+    use crate::engine::State;
+    use crate::flow::{check, Answer};
+
+    #[test]
+    fn heavy_nets_are_accepted() {
+        for heavy in checks().iter().filter(|heavy| heavy.name != "65,536 bytes") {
+            let answer = check(&heavy.net, &heavy.estimate, &mut [0; 1024]);
+            assert_eq!(answer, Answer::Accepted, "{}", heavy.name);
+        }
+        let (mut net, mut estimate) = (Net::empty(), Estimate::empty());
+        let heavy = large();
+        crate::flow::read_both(&heavy.net, &heavy.estimate, &mut net, &mut estimate).unwrap();
+        assert_eq!((net.sites, net.lines.len(), estimate.tuples.len()), (32, 256, 256));
+        assert!(estimate.binds.iter().all(|&mask| mask == Mask::MAX));
+        assert!(estimate.rights.iter().flatten().all(|&rights| rights != 0));
+    }
+
+    fn begun(heavy: &Heavy) -> State {
+        let mut state = State::start(&heavy.net, &heavy.estimate).unwrap();
+        if !heavy.arrival.is_empty() {
+            state.bring(&heavy.arrival).unwrap();
+        }
+        state
+    }
+
+    #[test]
+    fn cycles_come_back() {
+        for heavy in cycles() {
+            let first = begun(&heavy);
+            let mut state = first.clone();
+            for step in heavy.choices.chunks(3) {
+                let [k, m, r] = [step[0], step[1], step[2]].map(usize::from);
+                state.guarded_step(k, m, r).or_else(|_| state.step(k, m, r)).unwrap();
+            }
+            assert_eq!(state, first, "{}", heavy.name);
+        }
+    }
+
+    #[test]
+    fn doors_stay_closed() {
+        let heavy = closed_doors();
+        let mut state = begun(&heavy);
+        for step in heavy.choices.chunks(3) {
+            let [k, m, r] = [step[0], step[1], step[2]].map(usize::from);
+            state.step(k, m, r).unwrap();
+        }
+        assert_eq!(state.threads.len(), 64);
+        assert_eq!(state.ready(), None);
+        assert!((0..32).all(|l| state.door(6, l, 0) == Ok(false)));
+        for passes in [false, true] {
+            assert_eq!(begun(&arrived(passes)).door(2, 0, 0), Ok(passes));
+        }
+    }
+}

@@ -1,0 +1,60 @@
+//! Seeded cases: inputs for `lotcheck` and `lotrun`.
+
+mod arrivals;
+mod big;
+#[cfg(test)]
+mod checks;
+pub mod cover;
+mod damage;
+pub mod frames;
+pub mod heavy;
+mod listings;
+mod nets;
+mod process;
+mod required;
+mod rng;
+mod scripts;
+pub mod stored;
+mod text;
+
+use crate::{listing, script};
+use rng::Rng;
+
+/// What a case is an input of.
+#[derive(Clone, Copy, PartialEq, Eq, Debug)]
+pub enum Kind {
+    Listing,
+    Script,
+}
+
+impl Kind {
+    pub const ALL: [Kind; 2] = [Kind::Listing, Kind::Script];
+
+    pub fn name(self) -> &'static str {
+        match self {
+            Kind::Listing => "listing",
+            Kind::Script => "script",
+        }
+    }
+
+    pub fn named(name: &str) -> Option<Kind> {
+        Kind::ALL.into_iter().find(|kind| kind.name() == name)
+    }
+
+    /// The case of a seed; the same seed always gives the same bytes.
+    pub fn case(self, seed: u64) -> Vec<u8> {
+        let mut rng = Rng::new(seed);
+        match self {
+            Kind::Listing => listings::case(&mut rng),
+            Kind::Script => scripts::case(&mut rng),
+        }
+    }
+
+    /// What the program prints for a case.
+    pub fn output(self, case: &[u8]) -> Vec<u8> {
+        match self {
+            Kind::Listing => listing::list(case),
+            Kind::Script => script::run(case),
+        }
+    }
+}

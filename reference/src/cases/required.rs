@@ -1,0 +1,136 @@
+//! What the stored cases must have.
+
+use super::Kind;
+use crate::listing::MAX_INPUT;
+use crate::rows::*;
+
+/// A thing to be seen, how often at least, and at how many different rows.
+pub struct Wanted {
+    pub name: String,
+    pub least: usize,
+    pub rows: usize,
+}
+
+const OFTEN: usize = 5;
+const SOME: usize = 2;
+const MANY_ROWS: usize = 10;
+
+fn often(name: impl Into<String>) -> Wanted {
+    Wanted { name: name.into(), least: OFTEN, rows: 0 }
+}
+
+fn some(name: impl Into<String>) -> Wanted {
+    Wanted { name: name.into(), least: SOME, rows: 0 }
+}
+
+fn at_many_rows(name: String) -> Wanted {
+    Wanted { name, least: OFTEN, rows: MANY_ROWS }
+}
+
+pub fn required(kind: Kind) -> Vec<Wanted> {
+    let mut all = Vec::new();
+    match kind {
+        Kind::Listing => {
+            all.extend(refusals());
+            all.extend(VERDICTS.map(often));
+            all.extend(LIMITS.map(some));
+            for line in ["out", "in", "read", "eval"] {
+                all.push(often(format!("broken: Q {line} towards several sites")));
+                all.push(often(format!("accepted: Q {line} towards several sites")));
+            }
+            all.extend(
+                (MAX_INPUT - 1..=MAX_INPUT + 1).map(|n| some(format!("input of {n} bytes"))),
+            );
+        }
+        Kind::Script => {
+            all.extend((BAD_FORM..=FREE_VARIABLE).map(|n| often(format!("bring: refused {n}"))));
+            all.extend(COMMANDS.map(often));
+            all.extend(["step", "guarded"].into_iter().flat_map(steps));
+            let lines = ["out", "in", "read", "eval", "accept"];
+            all.extend(lines.map(|line| often(format!("guarded {line}: refused 26"))));
+        }
+    }
+    all
+}
+
+/// Texts refused: by number, and by the group of the row named.
+fn refusals() -> Vec<Wanted> {
+    let mut all = Vec::new();
+    for number in BAD_FORM..=NO_SITE {
+        all.push(at_many_rows(format!("net: refused {number}")));
+        all.push(at_many_rows(format!("estimate: refused {number}")));
+        all.extend(
+            ["R", "D", "T", "L", "Q"].map(|at| some(format!("net: refused {number} at {at}"))),
+        );
+        all.extend(["B", "A", "E"].map(|at| some(format!("estimate: refused {number} at {at}"))));
+    }
+    all.extend((BAD_FORM..=OUT_OF_ORDER).map(|n| some(format!("net: refused {n} at N"))));
+    all.extend((BAD_NUMBERING..=FREE_VARIABLE).map(|n| often(format!("net: refused {n}"))));
+    all.extend(["in", "read"].map(|line| some(format!("net: refused 7 at Q {line}"))));
+    let with_sites = ["out", "in", "read", "eval"];
+    all.extend(with_sites.map(|line| some(format!("net: refused 4 at Q {line}"))));
+    all
+}
+
+const VERDICTS: [&str; 7] = [
+    "broken: T",
+    "broken: Q out",
+    "broken: Q in",
+    "broken: Q read",
+    "broken: Q eval",
+    "accepted: report empty",
+    "accepted: report not empty",
+];
+
+const LIMITS: [&str; 14] = [
+    "taken: 1 sites",
+    "taken: 32 sites",
+    "taken: 255 T rows",
+    "taken: 256 T rows",
+    "taken: 63 L rows",
+    "taken: 64 L rows",
+    "taken: 255 Q rows",
+    "taken: 256 Q rows",
+    "taken: 255 A rows",
+    "taken: 256 A rows",
+    "net: one row of T too many",
+    "net: one row of L too many",
+    "net: one row of Q too many",
+    "estimate: one row of A too many",
+];
+
+const COMMANDS: [&str; 14] = [
+    "bring: taken",
+    "door: passes",
+    "door: closed",
+    "door: refused 24",
+    "door: refused 4",
+    "door: refused 2",
+    "ready: a place",
+    "ready: none",
+    "bad command",
+    "a variable bound anew",
+    "a thread ended",
+    "64 threads",
+    "256 tuples",
+    "accept: an arrival taken in again",
+];
+
+/// Every line performed and refused by a step; a guarded one also has 26.
+fn steps(name: &str) -> Vec<Wanted> {
+    let refusals: [(&str, &[u8]); 7] = [
+        ("par", &[27]),
+        ("rep", &[27]),
+        ("out", &[27]),
+        ("in", &[22, 23]),
+        ("read", &[22, 23]),
+        ("eval", &[27]),
+        ("accept", &[24, 25, 27]),
+    ];
+    let mut all = vec![often(format!("{name}: refused 21"))];
+    for (line, numbers) in refusals {
+        all.push(often(format!("{name} {line}: performed")));
+        all.extend(numbers.iter().map(|n| some(format!("{name} {line}: refused {n}"))));
+    }
+    all
+}

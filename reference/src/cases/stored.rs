@@ -1,0 +1,123 @@
+//! The cases of the stored runs: document 01's own, and such seeds that every
+//! thing which can be seen in a case is seen several times.
+
+use super::cover::{seen, Cover, Seen};
+use super::heavy::{ESTIMATE, NET};
+use super::Kind;
+use std::collections::BTreeMap;
+
+struct Plan {
+    /// Seeds looked at, from 1 on.
+    seeds: u64,
+    /// Fewest cases in all.
+    count: usize,
+    /// Most bytes of a small case.
+    small: usize,
+}
+
+const LISTINGS: Plan = Plan { seeds: 20_000, count: 460, small: 2500 };
+const SCRIPTS: Plan = Plan { seeds: 4000, count: 140, small: 5000 };
+
+/// A small case is taken while something in it was seen in fewer cases, a
+/// large one while something in it was seen in fewer than the lower number.
+const WANTED: usize = 8;
+const WANTED_LARGE: usize = 2;
+
+/// Rows without which net M breaks a rule.
+const NEEDED: [&str; 4] = ["A,s0,s5\n", "B,u1,s5\n", "A,s2,s3,s4\n", "E,s1,s2,r\n"];
+
+/// Small inputs, those of the table of numbers among them.
+const SMALL: [&str; 16] = [
+    "",
+    "\n",
+    ".\n",
+    "N,1",
+    "N,32\n",
+    "N,33\n",
+    "N,0\n",
+    "N,2\nR,s0,s1\n",
+    "N,1\nL,s0,0\nT,s0,s0\nQ,0,nil\n",
+    "N,2\nT,s2,s0\n",
+    "N,1\nL,s0,0\nQ,0,rep,0\n",
+    "N,2\nL,s0,0\nL,s1,0\nQ,0,nil\n",
+    "N,1\nL,s0,0\nQ,0,in,1,s0,!u2,u2\nQ,1,nil\n",
+    "N,1\nL,s0,0\nQ,0,out,1,u3,s0\nQ,1,nil\n",
+    "N,1\n.\n.\n",
+    "N,1\n.\nB,u0,s0",
+];
+
+/// Document 01's own cases.
+fn fixed_listings() -> Vec<Vec<u8>> {
+    let whole = format!("{NET}.\n{ESTIMATE}");
+    let mut texts = vec![whole.clone(), whole.replace("R,s1,s2,oir", "R,s1,s1,a\nR,s1,s2,oir")];
+    texts.extend(NEEDED.map(|row| whole.replace(row, "")));
+    texts.extend(SMALL.map(String::from));
+    texts.into_iter().map(String::into_bytes).collect()
+}
+
+/// The cases that a kind begins with.
+pub fn fixed(kind: Kind) -> Vec<Vec<u8>> {
+    match kind {
+        Kind::Listing => fixed_listings(),
+        Kind::Script => vec![],
+    }
+}
+
+/// The different things seen, each once.
+fn things(seen: &[Seen]) -> Vec<&str> {
+    let mut names: Vec<&str> = seen.iter().map(|thing| thing.name.as_str()).collect();
+    names.sort_unstable();
+    names.dedup();
+    names
+}
+
+/// In how many chosen cases each thing is seen.
+#[derive(Default)]
+struct Spread(BTreeMap<String, usize>);
+
+impl Spread {
+    fn adds(&self, seen: &[Seen], wanted: usize) -> bool {
+        things(seen).into_iter().any(|name| self.0.get(name).copied().unwrap_or(0) < wanted)
+    }
+
+    fn add(&mut self, seen: &[Seen]) {
+        for name in things(seen) {
+            *self.0.entry(name.to_string()).or_default() += 1;
+        }
+    }
+}
+
+/// The stored cases of a kind, and what they cover.
+pub fn choose(kind: Kind) -> (Vec<Vec<u8>>, Cover) {
+    let plan = match kind {
+        Kind::Listing => &LISTINGS,
+        Kind::Script => &SCRIPTS,
+    };
+    let (mut spread, mut cover) = (Spread::default(), Cover::default());
+    let mut cases = fixed(kind);
+    for case in &cases {
+        let seen = seen(kind, case);
+        spread.add(&seen);
+        cover.add(&seen);
+    }
+    let mut chosen = BTreeMap::new();
+    for (most, wanted) in
+        [(plan.small, WANTED), (usize::MAX, WANTED_LARGE), (plan.small, usize::MAX)]
+    {
+        for seed in 1..=plan.seeds {
+            let enough = wanted == usize::MAX && cases.len() + chosen.len() >= plan.count;
+            let case = kind.case(seed);
+            if enough || case.len() > most || chosen.contains_key(&seed) {
+                continue;
+            }
+            let seen = seen(kind, &case);
+            if spread.adds(&seen, wanted) {
+                spread.add(&seen);
+                cover.add(&seen);
+                chosen.insert(seed, case);
+            }
+        }
+    }
+    cases.extend(chosen.into_values());
+    (cases, cover)
+}
