@@ -119,14 +119,14 @@ fn prepared(state: State, choices: &[u8]) -> State
         let k = choice(choices, at);
         let m = choice(choices, at + 1);
         let r = choice(choices, at + 2);
-        last = step::step(last, k, m, r);
+        last = step::step(last, false, k, m, r);
         at += CHOICE;
     }
     last
 }
 
-// Bare steps, each by the next three of the choices: how many of them were performed.
-fn bare_steps(state: State, choices: &[u8], count: usize) -> u32
+// Steps, guarded or bare, each by the next three of the choices: how many of them were performed.
+fn steps(state: State, guarded: bool, choices: &[u8], count: usize) -> u32
     requires { ⌜ Fits state ⌝ }
 {
     let mut last = state;
@@ -137,27 +137,7 @@ fn bare_steps(state: State, choices: &[u8], count: usize) -> u32
         let k = choice(choices, at);
         let m = choice(choices, at + 1);
         let r = choice(choices, at + 2);
-        last = step::step(last, k, m, r);
-        performed = std::num::wrapping_add_u32(performed, done(last.told.number));
-        at = turned(at, choices.len());
-        i += 1;
-    }
-    performed
-}
-
-// Guarded steps, likewise: how many of them were performed.
-fn guarded_steps(state: State, choices: &[u8], count: usize) -> u32
-    requires { ⌜ Fits state ⌝ }
-{
-    let mut last = state;
-    let mut performed: u32 = 0;
-    let mut at: usize = 0;
-    let mut i: usize = 0;
-    while i < count {
-        let k = choice(choices, at);
-        let m = choice(choices, at + 1);
-        let r = choice(choices, at + 2);
-        last = step::guarded_step(last, k, m, r);
+        last = step::step(last, guarded, k, m, r);
         performed = std::num::wrapping_add_u32(performed, done(last.told.number));
         at = turned(at, choices.len());
         i += 1;
@@ -210,15 +190,15 @@ fn bring_times(state: State, arrival: &[u8], count: usize) -> State
     last
 }
 
-// Bare steps behind a start and a bring.
-fn bare_behind(state: State, arrival: &[u8], choices: &[u8], count: usize) -> u32
+// Steps behind a start and a bring.
+fn steps_behind(state: State, guarded: bool, arrival: &[u8], choices: &[u8], count: usize) -> u32
     requires { ⌜ (state .told .number ≡ 0 → Fits state) ⌝ }
 {
     if state.told.number != 0 {
         return REFUSED;
     }
     let next = brought(state, arrival);
-    bare_steps(next, choices, count)
+    steps(next, guarded, choices, count)
 }
 
 // Starts, brings the arrival and makes bare steps.
@@ -231,18 +211,7 @@ pub extern "C" fn salmurkki_steps(
     count: usize,
 ) -> u32 {
     let state = starts::start(net, estimate);
-    bare_behind(state, arrival, choices, count)
-}
-
-// Guarded steps behind a start and a bring.
-fn guarded_behind(state: State, arrival: &[u8], choices: &[u8], count: usize) -> u32
-    requires { ⌜ (state .told .number ≡ 0 → Fits state) ⌝ }
-{
-    if state.told.number != 0 {
-        return REFUSED;
-    }
-    let next = brought(state, arrival);
-    guarded_steps(next, choices, count)
+    steps_behind(state, false, arrival, choices, count)
 }
 
 // Starts, brings the arrival and makes guarded steps.
@@ -255,7 +224,7 @@ pub extern "C" fn salmurkki_guarded_steps(
     count: usize,
 ) -> u32 {
     let state = starts::start(net, estimate);
-    guarded_behind(state, arrival, choices, count)
+    steps_behind(state, true, arrival, choices, count)
 }
 
 // The door behind a start and a bring.

@@ -4,14 +4,14 @@ use Prim.Native.Nat.{_-_, _≤_}
 use lib.ListN.{length}
 use Rattle.state.specs.Fits.{Fits}
 use borrow.Author.Needs.{needs}
-use Rattle.exports.proofs.bare_steps.Statement.{statement}
-use Rattle.exports.proofs.bare_steps.Tie as tie
+use Rattle.exports.proofs.steps.Statement.{statement}
+use Rattle.exports.proofs.steps.Tie as tie
 
 abbrev Inv-loop : tie.InvT-loop
-Inv-loop choices count last₀ performed₀ at₀ i₀ last performed at i = Fits last × (at ≤ length choices)
+Inv-loop guarded choices count last₀ performed₀ at₀ i₀ last performed at i = Fits last × (at ≤ length choices)
 
 abbrev μ-loop : tie.MeasureT-loop
-μ-loop choices count last₀ performed₀ at₀ i₀ last performed at i = count - i
+μ-loop guarded choices count last₀ performed₀ at₀ i₀ last performed at i = count - i
 
 loop-holds : tie.Need-loop-holds Inv-loop μ-loop
 loop-holds c = search needs
@@ -55,8 +55,8 @@ loop-again c = search needs
 returns : tie.Need-returns Inv-loop μ-loop
 returns c = search needs
 
-pub bare-steps-spec : {M : Type 1} → statement M
-bare-steps-spec =
+pub steps-spec : {M : Type 1} → statement M
+steps-spec =
     tie.close
     (tie.spec
     Inv-loop
