@@ -10,7 +10,7 @@ ghost use Rattle.klaim.specs.Net.{Net, Estimate, home};
 ghost use Rattle.klaim.specs.Report.{sure, evalAdds, adds, addsNothing, rootAdds, holdAdds, report as reportOf};
 ghost use Rattle.tables.specs.View.{linesView, rootsView, InForm};
 ghost use Rattle.report.specs.Evals.{evalsOf, nowhere};
-ghost use Rattle.report.specs.Given.{aRoot, Rooted, Given};
+ghost use Rattle.report.specs.Given.{aRoot, Rooted, Given, RowAdded};
 use flow::UseMap;
 use klaim::Loc;
 use tables::Action;
@@ -68,18 +68,31 @@ fn is_empty(m: UseMap) -> bool
     true
 }
 
+// The rights added to the report for one subject, where it is in the set.
+fn add_row(bytes: &mut [u8; 1024], set: u32, subject: u8, rights: [u8; 32])
+    requires { ⌜ (subject < 32) × (length (now bytes) ≡ 1024) ⌝ }
+    ensures { λ r. ⌜ RowAdded set subject rights (now (bytes .entry)) (now (bytes .exit)) ⌝ }
+{
+    if sets::has_site(set, subject) {
+        let at = UseMap::SITES * (subject as usize);
+        let mut object: usize = 0;
+        while object < UseMap::SITES {
+            bytes[at + object] = bytes[at + object] | rights[object];
+            object += 1;
+        }
+    }
+}
+
 // The rights of a use map added to the report, for each subject of the set.
 fn add_uses(bytes: &mut [u8; 1024], set: u32, m: UseMap)
     requires { ⌜ length (now bytes) ≡ 1024 ⌝ }
     ensures { λ r. ⌜ now (bytes .exit) ≡ table 1024 (λ i. join (getD (now (bytes .entry)) i 0) (grant (mem (i / 32) set) (getD (m .rights) (i % 32) 0))) ⌝ }
 {
     let rights = m.rights;
-    let mut i: usize = 0;
-    while i < tables::REPORT {
-        let object = i % UseMap::SITES;
-        let subject = (i / UseMap::SITES) as u8;
-        bytes[i] = bytes[i] | sets::granted(set, subject, rights[object]);
-        i += 1;
+    let mut subject: u8 = 0;
+    while subject < 32 {
+        add_row(bytes, set, subject, rights);
+        subject += 1;
     }
 }
 
