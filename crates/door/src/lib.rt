@@ -9,8 +9,13 @@ ghost use Rattle.klaim.specs.Net.{Net, Estimate, boxAt};
 ghost use Rattle.klaim.specs.Report.{door as doorOf};
 ghost use Rattle.tables.specs.View.{linesView, rowsView, InForm};
 ghost use Rattle.rules.specs.Masks.{Sized};
+ghost use Rattle.klaim.specs.Analysis.{broken};
+ghost use Rattle.broken.specs.Lowest.{lowest};
 ghost use Rattle.door.specs.Parts.{sound as soundOf, usesFit};
 use flow::UseMap;
+
+// From how many lines that ask for rows on an index is made.
+const SOME: u8 = 4;
 
 // Whether a use map lies within sandbox d evaluated at site l.
 fn uses_within(m: UseMap, boxes: &[u8; 1056], d: u8, l: u8) -> bool
@@ -26,6 +31,66 @@ fn uses_within(m: UseMap, boxes: &[u8; 1056], d: u8, l: u8) -> bool
         ok = rules::both(rules::within(rights[at], flow::box_at(boxes, d, l, t)), ok);
     }
     ok
+}
+
+// The least broken line of the process of line q, with an index of the A rows.
+fn broken_by_index(
+    lines: &[u8; 2560],
+    n: usize,
+    boxes: &[u8; 1056],
+    binds: &[u32; 32],
+    hold: &[u8; 1024],
+    rows: &[u8; 1536],
+    count: usize,
+    places: u32,
+    q: u8,
+) -> u16
+    requires { ⌜ InForm n (now lines) q × (length (now lines) ≡ 2560) × Sized count (now rows) ⌝ }
+    ensures { λ r. ⌜ ((N : Net) (E : Estimate) → N .boxes ≡ now (boxes .entry) → E .binds ≡ now (binds .entry) → E .hold ≡ now (hold .entry) → E .stand ≡ rowsView count (now (rows .entry)) → r ≡ lowest (broken N E places (tree (linesView n (now (lines .entry))) q))) ⌝ }
+{
+    let mut index = [0u64; 768];
+    matching::fill(&mut index, rows, count);
+    broken::first_broken(lines, n, boxes, binds, hold, rows, count, &index, places, q)
+}
+
+// The least broken line of the process of line q, without one.
+fn broken_by_rows(
+    lines: &[u8; 2560],
+    n: usize,
+    boxes: &[u8; 1056],
+    binds: &[u32; 32],
+    hold: &[u8; 1024],
+    rows: &[u8; 1536],
+    count: usize,
+    places: u32,
+    q: u8,
+) -> u16
+    requires { ⌜ InForm n (now lines) q × (length (now lines) ≡ 2560) × Sized count (now rows) ⌝ }
+    ensures { λ r. ⌜ ((N : Net) (E : Estimate) → N .boxes ≡ now (boxes .entry) → E .binds ≡ now (binds .entry) → E .hold ≡ now (hold .entry) → E .stand ≡ rowsView count (now (rows .entry)) → r ≡ lowest (broken N E places (tree (linesView n (now (lines .entry))) q))) ⌝ }
+{
+    let none = [0u64; 1];
+    broken::first_broken(lines, n, boxes, binds, hold, rows, count, &none, places, q)
+}
+
+// The least broken line of the process of line q. To make an index takes the time of a few lines that ask for rows.
+fn first_broken(
+    lines: &[u8; 2560],
+    n: usize,
+    boxes: &[u8; 1056],
+    binds: &[u32; 32],
+    hold: &[u8; 1024],
+    rows: &[u8; 1536],
+    count: usize,
+    places: u32,
+    q: u8,
+) -> u16
+    requires { ⌜ InForm n (now lines) q × (length (now lines) ≡ 2560) × Sized count (now rows) ⌝ }
+    ensures { λ r. ⌜ ((N : Net) (E : Estimate) → N .boxes ≡ now (boxes .entry) → E .binds ≡ now (binds .entry) → E .hold ≡ now (hold .entry) → E .stand ≡ rowsView count (now (rows .entry)) → r ≡ lowest (broken N E places (tree (linesView n (now (lines .entry))) q))) ⌝ }
+{
+    if broken::unasked(lines, n, q, SOME) == 0 {
+        return broken_by_index(lines, n, boxes, binds, hold, rows, count, places, q);
+    }
+    broken_by_rows(lines, n, boxes, binds, hold, rows, count, places, q)
 }
 
 // Whether all rules hold for the lines of the arrival whose root is line q with place set l, and none of its eval lines adds
@@ -45,7 +110,7 @@ pub fn sound(
     ensures { λ r. ⌜ ((N : Net) (E : Estimate) → N .boxes ≡ now (boxes .entry) → E .binds ≡ now (binds .entry) → E .hold ≡ now (hold .entry) → E .stand ≡ rowsView count (now (rows .entry)) → r ≡ soundOf N E l (tree (linesView n (now (lines .entry))) q)) ⌝ }
 {
     let places = sets::single(l);
-    let first = broken::first_broken(lines, n, boxes, binds, hold, rows, count, places, q);
+    let first = first_broken(lines, n, boxes, binds, hold, rows, count, places, q);
     if first != broken::NONE {
         return false;
     }

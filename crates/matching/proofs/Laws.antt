@@ -2,17 +2,17 @@
 -- Assumes nothing.
 use mathlib.Core.Path.{_≡_, refl, sym, ap, subst, _∙_}
 use mathlib.Core.Bool.{Bool, true, false, cond, false≢true}
-use mathlib.Core.List.{List, [], _∷_, _++_, map}
+use mathlib.Core.List.{List, [], _∷_, map}
 use Prim.Native.Nat.{ℕ, zero, suc, _+_, _*_, _-_, _/_, _%_, _^_, _<_, _≤_, min}
 use native.Mathlib.Omega.{arith}
 use native.Mathlib.Nat.{min-eq-left, min-eq-right, div-one}
 use native.Mathlib.Decide.{decLe, decLt}
-use lib.Dec.{eqb, ltb}
+use lib.Dec.{eqb}
 use lib.ListN.{length, getD, take, drop, replicate, getD-replicate, length-take, length-drop, length-map, length-append, drop-of-length-le}
-use lib.Seq.{drop-cons, getD-take, getD-drop, take-suc}
-use Rattle.sets.specs.Lists.{Elem, All, done, more, _&_, imp, all, any, only, keep, among, below, tableFrom, table, same, _∪_}
+use lib.Seq.{drop-cons, getD-take, getD-drop}
+use Rattle.sets.specs.Lists.{All, done, more, _&_, imp, all, any, only, keep, among, tableFrom, table, same}
 use Rattle.sets.specs.Bits.{has, mem, sites, meet}
-use Rattle.sets.proofs.Lists.{iff, and-i, and-l, and-r, among-in, any-i, eq-eqb, eqb-eq, keep-snoc}
+use Rattle.sets.proofs.Lists.{iff, and-r, among-in, any-i, eq-eqb, eqb-eq, keep-snoc}
 use Rattle.sets.proofs.Counting.{Unlike}
 use Rattle.sets.proofs.Tables.{Filled, length-table, getD-table, table-snoc, table-drop}
 use Rattle.sets.proofs.Bits.{has-and, sites-in, in-sites}
@@ -20,7 +20,7 @@ use Rattle.klaim.specs.Invariant.{distinct}
 use Rattle.klaim.specs.Analysis.{choices}
 use Rattle.klaim.proofs.Choices.{fits, product, choices-count, sites-unlike}
 use Rattle.klaim.proofs.Choices as Choices
-use Rattle.tables.specs.View.{rowAt, rowsView}
+use Rattle.tables.specs.View.{rowAt}
 use Rattle.matching.specs.Marks.{markOf, Asks, Asked, marksOf, Bytes}
 
 -- a site is in a set as the code tests it
@@ -77,7 +77,7 @@ unfolding fits
 fits-end xss row j h l = rw (drop-of-length-le xss h, drop-of-length-le row l)
 
 -- one more element of a table that is kept or not
-only-long : {A : Type 0} (b : Bool) (x : A) → length (only b x) ≡ cond b 1 0
+pub only-long : {A : Type 0} (b : Bool) (x : A) → length (only b x) ≡ cond b 1 0
 unfolding only
 only-long true x = refl
 only-long false x = refl
@@ -106,7 +106,7 @@ sets-long ms m l e = length-map (take m ms) sites ∙ omega (arith, length-take 
 
 -- row i, from place j on, where it has m sites
 module _ (ms bs : List ℕ) (m i j : ℕ) (low : i < 256) (long : length bs ≡ 1536) (five : length ms ≡ 5) (most : m ≤ 5) (same-long : length (rowAt bs i) ≡ m) (here : j < m) where
-  fits-at : fits (drop j (Sets ms m)) (drop j (rowAt bs i)) ≡ (among (sites (getD ms j 0)) (getD bs (6 * i + 1 + j) 0) & fits (drop (suc j) (Sets ms m)) (drop (suc j) (rowAt bs i)))
+  pub fits-at : fits (drop j (Sets ms m)) (drop j (rowAt bs i)) ≡ (among (sites (getD ms j 0)) (getD bs (6 * i + 1 + j) 0) & fits (drop (suc j) (Sets ms m)) (drop (suc j) (rowAt bs i)))
   fits-at =
       fits-from (Sets ms m) (rowAt bs i) j (omega (arith, sets-long ms m most five)) (omega (arith, same-long))
       ∙ ap (λ (xs : List ℕ). among xs (getD (rowAt bs i) j 0) & fits (drop (suc j) (Sets ms m)) (drop (suc j) (rowAt bs i))) (sets-get ms m j here most five)

@@ -1,19 +1,27 @@
 //! Rows of tuples held against sets of sites: one set for a tuple's site, and one for each field.
 ghost use mathlib.Core.Path.{_≡_};
-ghost use mathlib.Core.Bool.{Bool, true, cond};
+ghost use mathlib.Core.Bool.{Bool, true, not, cond};
 ghost use mathlib.Core.List.{List, map};
 ghost use Prim.Native.Nat.{ℕ, _<_, _≤_, _*_, min};
-ghost use lib.ListN.{length, getD, take};
-ghost use Rattle.sets.specs.Lists.{_&_, imp, all, any, keep, same, among};
-ghost use Rattle.sets.specs.Bits.{sites};
+ghost use lib.Dec.{ltb};
+ghost use lib.Bits.{bitOr};
+ghost use lib.ListN.{length, getD, take, set, replicate};
+ghost use Rattle.sets.specs.Lists.{_&_, either, imp, all, any, keep, same, among, below};
+ghost use Rattle.sets.specs.Bits.{mem, sites};
 ghost use Rattle.klaim.specs.Analysis.{choices as allChoices};
-ghost use Rattle.klaim.specs.Invariant.{distinct};
+ghost use Rattle.klaim.specs.Invariant.{allBelow, distinct};
 ghost use Rattle.klaim.proofs.Choices.{fits, product};
 ghost use Rattle.tables.specs.View.{rowAt, rowsView};
+ghost use Rattle.matching.specs.Index.{keyOf, words, inRows, inIndex, Indexed, Entered, Low, Long, Backed};
 ghost use Rattle.matching.specs.Marks.{markOf, Asks, Asked, marksOf, Bytes};
 
 // More than the rows of a table.
 const MANY: u32 = 257;
+
+// All sites, and half their number.
+const ANY: u32 = 4294967295;
+
+const HALF: u32 = 16;
 
 pub fn wide(x: u8) -> usize
     ensures { λ r. ⌜ r ≡ x ⌝ }
@@ -150,13 +158,7 @@ fn rows_within(rows: &[u8; 1536], n: usize, reaches: [u32; 5], m: usize) -> u32
 fn count_sites(set: u32) -> u32
     ensures { λ r. ⌜ (r ≡ length (sites set)) × (r ≤ 32) ⌝ }
 {
-    let mut have: u32 = 0;
-    let mut s: u8 = 0;
-    while s < 32 {
-        have = have + one(sets::has_site(set, s));
-        s += 1;
-    }
-    have
+    u32::count_ones(set)
 }
 
 // The product, or 257 where it is more.
@@ -180,17 +182,6 @@ fn choices(reaches: [u32; 5], m: usize) -> u32
         p = times(count_sites(reaches[j]), p);
     }
     p
-}
-
-// Whether every choice of one site from each of the m sets has a row.
-// The rows are distinct, so it is enough to count those within the sets.
-pub fn every_choice(rows: &[u8; 1536], n: usize, reaches: [u32; 5], m: usize) -> bool
-    requires { ⌜ (n ≤ 256) × (length (now rows) ≡ 1536) × (m ≤ 5) × (distinct (rowsView n (now rows)) ≡ true) ⌝ }
-    ensures { λ r. ⌜ r ≡ allChoices (map sites (take m reaches)) (λ t. any (same t) (rowsView n (now (rows .entry)))) ⌝ }
-{
-    let have = rows_within(rows, n, reaches, m);
-    let need = choices(reaches, m);
-    have == need
 }
 
 // Whether row i, if it lies within the sets `want`, lies within the sets `allow` too.
@@ -228,8 +219,8 @@ fn both(a: bool, b: bool) -> bool
     if a { b } else { false }
 }
 
-// Whether each of the n rows that lies within the sets `want` lies within the sets `allow` too.
-pub fn every_bound(rows: &[u8; 1536], n: usize, want: [u32; 5], allow: [u32; 5], m: usize) -> bool
+// Whether each of the n rows that lies within the sets `want` lies within the sets `allow` too: all rows are gone through.
+fn bound_by_rows(rows: &[u8; 1536], n: usize, want: [u32; 5], allow: [u32; 5], m: usize) -> bool
     requires { ⌜ (n ≤ 256) × (length (now rows) ≡ 1536) × (m ≤ 5) ⌝ }
     ensures { λ r. ⌜ r ≡ all (λ row. imp (fits (map sites (take m want)) row) (fits (map sites (take m allow)) row)) (rowsView n (now (rows .entry))) ⌝ }
 {
@@ -245,4 +236,282 @@ pub fn every_bound(rows: &[u8; 1536], n: usize, want: [u32; 5], allow: [u32; 5],
         ok = both(row_bound(rows, i, &a, &b, &c, &d, &e, m), ok);
     }
     ok
+}
+
+// An index of a table of rows has, from place 128 * c + 4 * v on, the set of the rows with v in column c.
+// In column 0 stands how many sites a row has, in column c its c-th site.
+const COLUMNS: usize = 6;
+
+// Numbers of an index. One of another length is not made.
+const INDEX: usize = 768;
+
+// A set of rows: row i is bit i % 64 of number i / 64.
+pub struct RowSet {
+    a: u64,
+    b: u64,
+    c: u64,
+    d: u64,
+}
+
+// What row i has in column c.
+fn key(rows: &[u8; 1536], i: usize, c: usize) -> usize
+    requires { ⌜ (i < 256) × (c < 6) × (length (now rows) ≡ 1536) ⌝ }
+    ensures { λ r. ⌜ (r ≡ keyOf (now (rows .entry)) c i) × (r < 32) ⌝ }
+{
+    if c == 0 {
+        return row_len(rows, i);
+    }
+    wide(rows[6 * i + c]) % 32
+}
+
+fn put(index: &mut [u64; 768], at: usize, bit: u64)
+    requires { ⌜ (at < 768) × (length (now index) ≡ 768) ⌝ }
+    ensures { λ r. ⌜ now (index .exit) ≡ set (now (index .entry)) at (bitOr (getD (now (index .entry)) at 0) bit) ⌝ }
+{
+    index[at] = index[at] | bit;
+}
+
+// Row i put into an index.
+fn put_row(index: &mut [u64; 768], rows: &[u8; 1536], i: usize)
+    requires { ⌜ (i < 256) × (length (now rows) ≡ 1536) × (length (now index) ≡ 768) ⌝ }
+    ensures { λ r. ⌜ Entered (now (rows .entry)) i 6 (now (index .entry)) (now (index .exit)) ⌝ }
+{
+    let bit = 1u64 << (i % 64);
+    let mut c = 0;
+    while c < COLUMNS {
+        put(index, 128 * c + 4 * key(rows, i, c) + i / 64, bit);
+        c += 1;
+    }
+}
+
+// The index of the first n rows, made in a blank table.
+pub fn fill(index: &mut [u64; 768], rows: &[u8; 1536], n: usize)
+    requires { ⌜ (n ≤ 256) × (length (now rows) ≡ 1536) × (now index ≡ replicate 768 0) ⌝ }
+    ensures { λ r. ⌜ Indexed n (now (rows .entry)) (now (index .exit)) × (length (now (index .exit)) ≡ 768) ⌝ }
+{
+    let mut i = 0;
+    while i < n {
+        put_row(index, rows, i);
+        i += 1;
+    }
+}
+
+// The rows with v in column c.
+fn rows_with(index: &[u64], column: usize, v: usize) -> RowSet
+    requires { ⌜ (column < 6) × (v < 32) × (length (now index) ≡ 768) ⌝ }
+    ensures { λ r. ⌜ ((i : ℕ) → i < 256 → inRows (words r) i ≡ inIndex (now (index .entry)) column v i) ⌝ }
+{
+    let at = 128 * column + 4 * v;
+    let a = index[at];
+    let b = index[at + 1];
+    let c = index[at + 2];
+    let d = index[at + 3];
+    RowSet { a, b, c, d }
+}
+
+fn in_both(x: RowSet, y: RowSet) -> RowSet
+    ensures { λ r. ⌜ ((i : ℕ) → i < 256 → inRows (words r) i ≡ (inRows (words x) i & inRows (words y) i)) ⌝ }
+{
+    RowSet {
+        a: x.a & y.a,
+        b: x.b & y.b,
+        c: x.c & y.c,
+        d: x.d & y.d,
+    }
+}
+
+fn in_either(x: RowSet, y: RowSet) -> RowSet
+    ensures { λ r. ⌜ ((i : ℕ) → i < 256 → inRows (words r) i ≡ either (inRows (words x) i) (inRows (words y) i)) ⌝ }
+{
+    RowSet {
+        a: x.a | y.a,
+        b: x.b | y.b,
+        c: x.c | y.c,
+        d: x.d | y.d,
+    }
+}
+
+fn in_first(x: RowSet, y: RowSet) -> RowSet
+    ensures { λ r. ⌜ ((i : ℕ) → i < 256 → inRows (words r) i ≡ (inRows (words x) i & not (inRows (words y) i))) ⌝ }
+{
+    RowSet {
+        a: x.a - (x.a & y.a),
+        b: x.b - (x.b & y.b),
+        c: x.c - (x.c & y.c),
+        d: x.d - (x.d & y.d),
+    }
+}
+
+// The rows whose site in column c is in the set. Each turn takes the least site out of the rest.
+fn rows_in(index: &[u64], c: usize, set: u32) -> RowSet
+    requires { ⌜ (c < 6) × (length (now index) ≡ 768) ⌝ }
+    ensures { λ r. ⌜ ((n : ℕ) (bs : List ℕ) → Indexed n bs (now (index .entry)) → (i : ℕ) → i < 256 → inRows (words r) i ≡ (ltb i n & mem (keyOf bs c i) set)) ⌝ }
+{
+    let mut r = RowSet {
+        a: 0,
+        b: 0,
+        c: 0,
+        d: 0,
+    };
+    let mut rest = set;
+    while rest != 0 {
+        let v = u32::trailing_zeros(rest);
+        r = in_either(r, rows_with(index, c, v as usize));
+        rest = rest & (rest - 1);
+    }
+    r
+}
+
+// Of some of the rows those whose site in column c is in the set. Where it has most sites, those with another site are left out.
+fn kept(index: &[u64], had: RowSet, c: usize, set: u32) -> RowSet
+    requires { ⌜ (c < 6) × (length (now index) ≡ 768) ⌝ }
+    ensures { λ r. ⌜ ((n : ℕ) (bs : List ℕ) → Indexed n bs (now (index .entry)) → (i : ℕ) → i < 256 → keyOf bs c i < 32 → (inRows (words had) i ≡ true → i < n) → inRows (words r) i ≡ (inRows (words had) i & mem (keyOf bs c i) set)) ⌝ }
+{
+    if u32::count_ones(set) <= HALF {
+        return in_both(had, rows_in(index, c, set));
+    }
+    in_first(had, rows_in(index, c, ANY - set))
+}
+
+// Of some rows with m sites those with each site within its set.
+fn narrowed(index: &[u64], had: RowSet, reaches: [u32; 5], m: usize) -> RowSet
+    requires { ⌜ (m ≤ 5) × (length (now index) ≡ 768) ⌝ }
+    ensures { λ r. ⌜ ((n : ℕ) (bs : List ℕ) → Indexed n bs (now (index .entry)) → Low n bs → Long n bs m (words had) → (i : ℕ) → i < 256 → inRows (words r) i ≡ (inRows (words had) i & fits (map sites (take m reaches)) (rowAt bs i))) ⌝ }
+{
+    let mut r = had;
+    let mut j = m;
+    while 0 < j {
+        j -= 1;
+        r = kept(index, r, j + 1, reaches[j]);
+    }
+    r
+}
+
+// The rows with m sites, each within its set.
+fn chosen(index: &[u64], reaches: [u32; 5], m: usize) -> RowSet
+    requires { ⌜ (m ≤ 5) × (length (now index) ≡ 768) ⌝ }
+    ensures { λ r. ⌜ ((n : ℕ) (bs : List ℕ) → Indexed n bs (now (index .entry)) → Low n bs → (i : ℕ) → i < 256 → inRows (words r) i ≡ (ltb i n & fits (map sites (take m reaches)) (rowAt bs i))) ⌝ }
+{
+    let had = rows_with(index, 0, m);
+    narrowed(index, had, reaches, m)
+}
+
+// How many rows a set has.
+fn count_rows(rows: RowSet) -> u32
+    ensures { λ r. ⌜ (r ≡ length (keep (inRows (words rows)) (below 256))) × (r ≤ 256) ⌝ }
+{
+    let a = u64::count_ones(rows.a);
+    let b = u64::count_ones(rows.b);
+    let c = u64::count_ones(rows.c);
+    let d = u64::count_ones(rows.d);
+    a + b + (c + d)
+}
+
+// Whether a set has a row.
+fn some_row(rows: RowSet) -> bool
+    ensures { λ r. ⌜ r ≡ any (inRows (words rows)) (below 256) ⌝ }
+{
+    if rows.a != 0 {
+        return true;
+    }
+    if rows.b != 0 {
+        return true;
+    }
+    if rows.c != 0 {
+        return true;
+    }
+    rows.d != 0
+}
+
+// Whether two sets have the same rows.
+fn same_rows(x: RowSet, y: RowSet) -> bool
+    ensures { λ r. ⌜ (r ≡ true → (i : ℕ) → i < 256 → inRows (words x) i ≡ inRows (words y) i) × (((i : ℕ) → i < 256 → inRows (words x) i ≡ inRows (words y) i) → r ≡ true) ⌝ }
+{
+    if x.a != y.a {
+        return false;
+    }
+    if x.b != y.b {
+        return false;
+    }
+    if x.c != y.c {
+        return false;
+    }
+    x.d == y.d
+}
+
+// Whether each row that lies within the sets `want` lies within the sets `allow` too, by the index.
+fn bound_by_index(index: &[u64], want: [u32; 5], allow: [u32; 5], m: usize) -> bool
+    requires { ⌜ (m ≤ 5) × (length (now index) ≡ 768) ⌝ }
+    ensures { λ r. ⌜ ((n : ℕ) (bs : List ℕ) → Indexed n bs (now (index .entry)) → Low n bs → r ≡ all (λ row. imp (fits (map sites (take m want)) row) (fits (map sites (take m allow)) row)) (rowsView n bs)) ⌝ }
+{
+    let wanted = chosen(index, want, m);
+    let both = narrowed(index, wanted, allow, m);
+    same_rows(wanted, both)
+}
+
+// Whether each of the n rows that lies within the sets `want` lies within the sets `allow` too, by the index if it is made.
+pub fn every_bound(
+    rows: &[u8; 1536],
+    n: usize,
+    index: &[u64],
+    want: [u32; 5],
+    allow: [u32; 5],
+    m: usize,
+) -> bool
+    requires { ⌜ Low n (now rows) × (m ≤ 5) × Backed n (now rows) (now index) ⌝ }
+    ensures { λ r. ⌜ r ≡ all (λ row. imp (fits (map sites (take m want)) row) (fits (map sites (take m allow)) row)) (rowsView n (now (rows .entry))) ⌝ }
+{
+    if index.len() == INDEX {
+        return bound_by_index(index, want, allow, m);
+    }
+    bound_by_rows(rows, n, want, allow, m)
+}
+
+// How many of the n rows have m sites, each within its set, by the index if it is made.
+fn rows_chosen(rows: &[u8; 1536], n: usize, index: &[u64], reaches: [u32; 5], m: usize) -> u32
+    requires { ⌜ Low n (now rows) × (m ≤ 5) × Backed n (now rows) (now index) ⌝ }
+    ensures { λ r. ⌜ (r ≡ length (keep (fits (map sites (take m reaches))) (rowsView n (now (rows .entry))))) × (r ≤ 256) ⌝ }
+{
+    if index.len() == INDEX {
+        return count_rows(chosen(index, reaches, m));
+    }
+    rows_within(rows, n, reaches, m)
+}
+
+// Whether every choice of one site from each of the m sets has a row.
+// The rows are distinct, so it is enough to count those within the sets.
+pub fn every_choice(rows: &[u8; 1536], n: usize, index: &[u64], reaches: [u32; 5], m: usize) -> bool
+    requires { ⌜ Low n (now rows) × (m ≤ 5) × Backed n (now rows) (now index) × (distinct (rowsView n (now rows)) ≡ true) ⌝ }
+    ensures { λ r. ⌜ r ≡ allChoices (map sites (take m reaches)) (λ t. any (same t) (rowsView n (now (rows .entry)))) ⌝ }
+{
+    let need = choices(reaches, m);
+    if MANY <= need {
+        return false;
+    }
+    let have = rows_chosen(rows, n, index, reaches, m);
+    have == need
+}
+
+// The rows, of some with m sites, that are alike to tuple i.
+fn alike(index: &[u64], had: RowSet, tuples: &[u8; 1536], i: usize, m: usize) -> RowSet
+    requires { ⌜ (i < 256) × (m ≤ 5) × (length (now index) ≡ 768) × (length (now tuples) ≡ 1536) × (m ≡ length (rowAt (now tuples) i)) × (allBelow 32 (rowAt (now tuples) i) ≡ true) ⌝ }
+    ensures { λ r. ⌜ ((n : ℕ) (bs : List ℕ) → Indexed n bs (now (index .entry)) → Low n bs → Long n bs m (words had) → (k : ℕ) → k < 256 → inRows (words r) k ≡ (inRows (words had) k & same (rowAt (now (tuples .entry)) i) (rowAt bs k))) ⌝ }
+{
+    let mut r = had;
+    let mut j = m;
+    while 0 < j {
+        r = in_both(r, rows_with(index, j, key(tuples, i, j)));
+        j -= 1;
+    }
+    r
+}
+
+// Whether tuple i has a row.
+pub fn has_row(index: &[u64], tuples: &[u8; 1536], i: usize) -> bool
+    requires { ⌜ (i < 256) × (length (now index) ≡ 768) × (length (now tuples) ≡ 1536) × (allBelow 32 (rowAt (now tuples) i) ≡ true) ⌝ }
+    ensures { λ r. ⌜ ((n : ℕ) (bs : List ℕ) → Indexed n bs (now (index .entry)) → Low n bs → r ≡ any (same (rowAt (now (tuples .entry)) i)) (rowsView n bs)) ⌝ }
+{
+    let m = row_len(tuples, i);
+    let had = rows_with(index, 0, m);
+    some_row(alike(index, had, tuples, i, m))
 }

@@ -12,6 +12,7 @@ ghost use Rattle.klaim.specs.Net.{Net, Estimate, holds};
 ghost use Rattle.klaim.specs.Analysis.{reach as reachOf, outRule, getRule, evalRule};
 ghost use Rattle.klaim.specs.Invariant.{allBelow, distinct};
 ghost use Rattle.tables.specs.View.{rowsView, fieldBytes, locOf, slotOf, LowLoc, LowSlot};
+ghost use Rattle.matching.specs.Index.{Backed};
 ghost use Rattle.rules.specs.Masks.{anySite, wanted as wantedOf, allowed as allowedOf, Sized};
 use klaim::Loc;
 use klaim::Slot;
@@ -119,13 +120,14 @@ pub fn out_rule(
     binds: &[u32; 32],
     rows: &[u8; 1536],
     n: usize,
+    index: &[u64],
 ) -> bool
-    requires { ⌜ LowLoc target × (count ≤ 4) × (length (now lines) ≡ 2560) × Sized n (now rows) ⌝ }
+    requires { ⌜ LowLoc target × (count ≤ 4) × (length (now lines) ≡ 2560) × Sized n (now rows) × Backed n (now rows) (now index) ⌝ }
     ensures { λ r. ⌜ ((E : Estimate) → E .binds ≡ now (binds .entry) → E .stand ≡ rowsView n (now (rows .entry)) → r ≡ outRule E places target (map locOf (take count (fieldBytes (now (lines .entry)) q)))) ⌝ }
 {
     let sets = out_sets(lines, q, count, target, places, binds);
     let m = (count as usize) + 1;
-    matching::every_choice(rows, n, sets, m)
+    matching::every_choice(rows, n, index, sets, m)
 }
 
 // The rule of an in or read line.
@@ -138,14 +140,15 @@ pub fn get_rule(
     binds: &[u32; 32],
     rows: &[u8; 1536],
     n: usize,
+    index: &[u64],
 ) -> bool
-    requires { ⌜ LowLoc target × (count ≤ 4) × (length (now lines) ≡ 2560) × Sized n (now rows) ⌝ }
+    requires { ⌜ LowLoc target × (count ≤ 4) × (length (now lines) ≡ 2560) × Sized n (now rows) × Backed n (now rows) (now index) ⌝ }
     ensures { λ r. ⌜ ((E : Estimate) → E .binds ≡ now (binds .entry) → E .stand ≡ rowsView n (now (rows .entry)) → r ≡ getRule E places target (map slotOf (take count (fieldBytes (now (lines .entry)) q)))) ⌝ }
 {
     let want = want_sets(lines, q, count, target, places, binds);
     let allow = allow_sets(lines, q, count, binds);
     let m = (count as usize) + 1;
-    matching::every_bound(rows, n, want, allow, m)
+    matching::every_bound(rows, n, index, want, allow, m)
 }
 
 pub fn both(a: bool, b: bool) -> bool

@@ -1,66 +1,24 @@
 -- Laws of the verdict as the code finds it.
 -- Assumes nothing.
-use mathlib.Core.Path.{_≡_, refl, sym, ap, ap₂, subst, _∙_}
+use mathlib.Core.Path.{_≡_, refl, sym, ap, ap₂, _∙_}
 use mathlib.Core.Bool.{Bool, true, false, cond}
-use mathlib.Core.List.{List, [], _∷_, _++_, map}
-use mathlib.Core.Option.{Option, none, some, Option·map}
+use mathlib.Core.List.{List, [], _∷_}
+use mathlib.Core.Option.{none, some, Option·map}
 use Prim.Native.Nat.{ℕ, zero, suc, _+_, _*_, _-_, _<_, _≤_, _^_, min}
 use native.Mathlib.Omega.{arith}
 use borrow.Author.Tests.{eq-eqb, ne-eqb}
-use lib.Dec.{eqb}
-use lib.ListN.{length, getD, take, drop, set, length-take, drop-of-length-le}
-use lib.Seq.{take-suc, take-suc-set, take-all, drop-cons}
-use Rattle.sets.specs.Lists.{Elem, All, done, more, _&_, all, any, same, only, keep, below, tableFrom, table, concat, _∪_}
-use Rattle.sets.specs.Bits.{has, mem, sites}
-use Rattle.sets.proofs.Lists.{and-l, and-r, all-at, ltb-lt, map-append, same-eq, All-union, All-turn}
-use Rattle.sets.proofs.Tables.{below-in, getD-table, length-table, table-drop}
+use lib.ListN.{length, getD, drop, drop-of-length-le}
+use Rattle.sets.specs.Lists.{All, done, any, same, table, concat}
+use Rattle.sets.proofs.Lists.{All-union, All-turn}
+use Rattle.sets.proofs.Tables.{getD-table, length-table, table-drop}
 use Rattle.klaim.specs.Process.{Line, tree}
 use Rattle.klaim.specs.Net.{Root, Net, Estimate}
-use Rattle.klaim.specs.Analysis.{choices, firstNot, least, stands, broken, placeSet, process, Verdict, accepted, brokenT, brokenQ, brokenTuple, brokenLine, verdictOf, verdict}
-use Rattle.klaim.specs.Invariant.{allBelow}
-use Rattle.tables.specs.View.{rowAt, rootAt, linesView}
+use Rattle.klaim.specs.Analysis.{firstNot, least, stands, broken, placeSet, process, accepted, brokenT, brokenQ, brokenTuple, brokenLine, verdictOf, verdict}
+use Rattle.tables.specs.View.{rootAt, linesView}
 use Rattle.broken.specs.Lowest.{lowest, found}
 use Rattle.broken.proofs.Laws.{lowest-both}
 use Rattle.broken.proofs.Lines.{broken-low, least-found}
-use Rattle.matching.proofs.Laws.{row-long, row-get}
 use Rattle.verdict.specs.Verdict.{placeOf}
-
--- a set of one site has that site alone
-single-test : all (λ v. same (sites (2 ^ v)) (v ∷ [])) (below 32) ≡ true
-unfolding all below table tableFrom has _&_ sites keep only _∪_ same
-single-test = refl
-
-sites-single : (v : ℕ) → v < 32 → sites (2 ^ v) ≡ v ∷ []
-sites-single v h = same-eq _ _ (all-at (λ v. same (sites (2 ^ v)) (v ∷ [])) (below-in 32 v h) single-test)
-
-and-one : (b : Bool) → (b & true) ≡ b
-unfolding _&_
-and-one true = refl
-and-one false = refl
-
--- the one choice from sets of one site each
-pub single-choice : (t : List ℕ) (f : List ℕ → Bool) → allBelow 32 t ≡ true → choices (map sites (map (λ v. 2 ^ v) t)) f ≡ f t
-unfolding choices allBelow all
-single-choice [] f h = refl
-single-choice (v ∷ vs) f h =
-    ap (all (λ x. choices (map sites (map (λ v. 2 ^ v) vs)) (λ ys. f (x ∷ ys)))) (sites-single v (ltb-lt v 32 (and-l _ _ h)))
-    ∙ and-one (choices (map sites (map (λ v. 2 ^ v) vs)) (λ ys. f (v ∷ ys)))
-    ∙ single-choice vs (λ ys. f (v ∷ ys)) (and-r _ _ h)
-
--- one more set of one site
-pub singles-more : (row r : List ℕ) (j v : ℕ) → j < length row → j < length r → take j r ≡ map (λ v. 2 ^ v) (take j row) → v ≡ getD row j 0 → (k : ℕ) → suc j ≡ k → take k (set r j (2 ^ v)) ≡ map (λ v. 2 ^ v) (take k row)
-singles-more row r j v h l e w k q =
-    ap (λ (n : ℕ). take n (set r j (2 ^ v))) (sym q)
-    ∙ take-suc-set r j (2 ^ v) l
-    ∙ ap₂ (λ (xs : List ℕ) (y : ℕ). xs ++ (2 ^ y ∷ [])) e w
-    ∙ sym (ap (map (λ v. 2 ^ v)) (ap (λ (n : ℕ). take n row) (sym q) ∙ take-suc row j 0 h) ∙ map-append (λ v. 2 ^ v) (take j row) (getD row j 0 ∷ []))
-
--- a site of a row is below 32
-pub row-low : (row : List ℕ) (j : ℕ) → allBelow 32 row ≡ true → j < length row → getD row j 0 < 32
-unfolding allBelow all
-row-low [] j h l = absurd (omega arith)
-row-low (v ∷ vs) zero h l = ltb-lt v 32 (and-l _ _ h)
-row-low (v ∷ vs) (suc j) h l = row-low vs j (and-r _ _ h) (omega arith)
 
 -- the first place that does not pass
 module _ {A : Type 0} (f : A → Bool) where

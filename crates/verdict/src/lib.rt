@@ -1,14 +1,15 @@
 //! The verdict on a net and its estimate: accepted, or the first broken rule.
 ghost use mathlib.Core.Path.{_≡_};
 ghost use mathlib.Core.Bool.{true};
-ghost use mathlib.Core.List.{map};
-ghost use Prim.Native.Nat.{ℕ, _<_, _≤_, _^_};
-ghost use lib.ListN.{length, take};
+ghost use mathlib.Core.List.{List};
+ghost use Prim.Native.Nat.{ℕ, _≤_};
+ghost use lib.ListN.{length};
 ghost use Rattle.sets.specs.Lists.{any, all, same, concat};
 ghost use Rattle.klaim.specs.Net.{Net, Estimate};
 ghost use Rattle.klaim.specs.Analysis.{stands, firstNot, broken as brokenOf, placeSet, process, verdict as verdictOf, verdictOf as verdictBy};
 ghost use Rattle.klaim.specs.Invariant.{allBelow};
 ghost use Rattle.tables.specs.View.{rowAt, rowsView, rootsView, rootAt, linesView};
+ghost use Rattle.matching.specs.Index.{Indexed, Low, Backed};
 ghost use Rattle.rules.specs.Masks.{Sized};
 ghost use Rattle.report.specs.Given.{Rooted, Given};
 ghost use Rattle.broken.specs.Lowest.{lowest, found};
@@ -20,39 +21,14 @@ pub enum Verdict {
     BrokenLine(u16),
 }
 
-// The sets of one site each, of the sites of row i.
-fn single_sets(rows: &[u8; 1536], i: usize, m: usize) -> [u32; 5]
-    requires { ⌜ (i < 256) × (length (now rows) ≡ 1536) × (m ≡ length (rowAt (now rows) i)) × (m ≤ 5) × (allBelow 32 (rowAt (now rows) i) ≡ true) ⌝ }
-    ensures { λ r. ⌜ take m r ≡ map (λ v. 2 ^ v) (rowAt (now (rows .entry)) i) ⌝ }
-{
-    let at = 6 * i + 1;
-    let mut r = [0u32; 5];
-    let mut j = 0;
-    while j < m {
-        r[j] = sets::single(rows[at + j]);
-        j += 1;
-    }
-    r
-}
-
-// T row i: its tuple has an A row.
-fn row_stands(tuples: &[u8; 1536], i: usize, rows: &[u8; 1536], n: usize) -> bool
-    requires { ⌜ (i < 256) × (length (now tuples) ≡ 1536) × (allBelow 32 (rowAt (now tuples) i) ≡ true) × Sized n (now rows) ⌝ }
-    ensures { λ r. ⌜ r ≡ any (same (rowAt (now (tuples .entry)) i)) (rowsView n (now (rows .entry))) ⌝ }
-{
-    let m = matching::row_len(tuples, i);
-    let sets = single_sets(tuples, i, m);
-    matching::every_choice(rows, n, sets, m)
-}
-
-// The first of the T rows whose tuple has no A row; their number, where there is none.
-fn first_missing(tuples: &[u8; 1536], count: usize, rows: &[u8; 1536], n: usize) -> usize
-    requires { ⌜ (count ≤ 256) × (length (now tuples) ≡ 1536) × (all (allBelow 32) (rowsView count (now tuples)) ≡ true) × Sized n (now rows) ⌝ }
-    ensures { λ r. ⌜ (placeOf count r ≡ firstNot (λ t. any (same t) (rowsView n (now (rows .entry)))) (rowsView count (now (tuples .entry)))) × (r ≤ count) ⌝ }
+// The first of the T rows whose tuple has no A row, by the index of these; their number, where there is none.
+fn first_missing(tuples: &[u8; 1536], count: usize, index: &[u64]) -> usize
+    requires { ⌜ (count ≤ 256) × (length (now tuples) ≡ 1536) × (all (allBelow 32) (rowsView count (now tuples)) ≡ true) × (length (now index) ≡ 768) ⌝ }
+    ensures { λ r. ⌜ ((n : ℕ) (bs : List ℕ) → Indexed n bs (now (index .entry)) → Low n bs → placeOf count r ≡ firstNot (λ t. any (same t) (rowsView n bs)) (rowsView count (now (tuples .entry)))) × (r ≤ count) ⌝ }
 {
     let mut i = 0;
     while i < count {
-        if row_stands(tuples, i, rows, n) {
+        if matching::has_row(index, tuples, i) {
             i += 1;
         } else {
             return i;
@@ -72,8 +48,9 @@ fn first_line(
     hold: &[u8; 1024],
     rows: &[u8; 1536],
     n: usize,
+    index: &[u64],
 ) -> u16
-    requires { ⌜ Rooted nlines (now lines) nroots (now roots) × (length (now lines) ≡ 2560) × Sized n (now rows) ⌝ }
+    requires { ⌜ Rooted nlines (now lines) nroots (now roots) × (length (now lines) ≡ 2560) × Sized n (now rows) × Backed n (now rows) (now index) ⌝ }
     ensures { λ r. ⌜ ((N : Net) (E : Estimate) → N .boxes ≡ now (boxes .entry) → N .lines ≡ linesView nlines (now (lines .entry)) → E .binds ≡ now (binds .entry) → E .hold ≡ now (hold .entry) → E .stand ≡ rowsView n (now (rows .entry)) → r ≡ lowest (concat (λ x. brokenOf N E (placeSet (x .site)) (process N x)) (rootsView nroots (now (roots .entry))))) ⌝ }
 {
     let mut r: u16 = broken::NONE;
@@ -89,6 +66,7 @@ fn first_line(
             hold,
             rows,
             n,
+            index,
             places,
             roots[2 * i + 1],
         );
@@ -127,7 +105,20 @@ pub fn judge<'a>(
     requires { ⌜ Judgeable (now tuples) ntuples (now roots) nroots (now lines) nlines (now rows) n ⌝ }
     ensures { λ r. ⌜ ((N : Net) (E : Estimate) → Tabled N E (now (boxes .entry)) (now (tuples .entry)) ntuples (now (roots .entry)) nroots (now (lines .entry)) nlines (now (binds .entry)) (now (rows .entry)) n (now (hold .entry)) → verdictView r ≡ verdictOf N E) ⌝ }
 {
-    let i = first_missing(tuples, ntuples, rows, n);
-    let q = first_line(roots, nroots, lines, nlines, boxes, binds, hold, rows, n);
+    let mut index = [0u64; 768];
+    matching::fill(&mut index, rows, n);
+    let i = first_missing(tuples, ntuples, &index);
+    let q = first_line(
+        roots,
+        nroots,
+        lines,
+        nlines,
+        boxes,
+        binds,
+        hold,
+        rows,
+        n,
+        &index,
+    );
     decide(i as u16, ntuples as u16, q)
 }

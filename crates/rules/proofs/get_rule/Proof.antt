@@ -30,8 +30,8 @@ every-bound-requires c κs = search needs
 -- src/lib.rt:117:1
 returns : tie.Need-returns
 returns c =
-    let s = c .before .before .before in
-    λ E e w. c .every-bound .ensures ∙ get-law E (s .args .places) (s .args .target) (take (s .args .count) (fieldBytes (s .args .lines .now) (s .args .q))) _ _ _ w (c .before .before .before .pre .3 .low) (c .before .before .want-sets .ensures E e) (c .before .allow-sets .ensures E e)
+    let s = c .before .before .before .before in
+    λ E e w. c .every-bound .ensures ∙ get-law E (s .args .places) (s .args .target) (take (s .args .count) (fieldBytes (s .args .lines .now) (s .args .q))) _ _ _ w (s .pre .3 .low) (c .before .before .want-sets .ensures E e) (c .before .allow-sets .ensures E e)
 
 pub get-rule-spec : {M : Type 1} → statement M
 get-rule-spec =

@@ -25,7 +25,7 @@ every-choice-requires c κs = search needs
 -- src/lib.rt:98:1
 returns : tie.Need-returns
 returns c =
-    let s = c .before .before in
+    let s = c .before .before .before in
     λ E e w. c .every-choice .ensures ∙ out-law E (s .args .places) (s .args .target) (take (s .args .count) (fieldBytes (s .args .lines .now) (s .args .q))) _ _ w (c .before .out-sets .ensures E e)
 
 pub out-rule-spec : {M : Type 1} → statement M

@@ -1,49 +1,67 @@
-use mathlib.Core.Path.{_≡_, ap, _∙_}
+use mathlib.Core.Path.{ap, _∙_}
 use native.Mathlib.Omega.{arith}
 use lib.ListN.{length}
-use Rattle.klaim.specs.Process.{Line}
 use Rattle.tables.proofs.Lines.{length-view}
+use Rattle.matching.specs.Index.{Low}
 use Rattle.verdict.proofs.Laws.{verdict-is}
 use borrow.Author.Needs.{needs}
 use Rattle.verdict.proofs.judge.Statement.{statement}
 use Rattle.verdict.proofs.judge.Tie as tie
 use Rattle.verdict.proofs.judge.Reads as reads
 use Rattle.verdict.proofs.judge.Lts as lts
+use Rattle.matching.proofs.fill.Reads as fill-reads
 use Rattle.verdict.proofs.decide.Reads as decide-reads
 use Rattle.verdict.proofs.first_line.Reads as first-line-reads
 use Rattle.verdict.proofs.first_missing.Reads as first-missing-reads
 
--- src/lib.rt:120:9
+-- src/lib.rt:109:5
+fill-requires : tie.Need-fill-requires
+fill-requires c κs = search needs
+
+-- src/lib.rt:110:44
+slice-aggregate-first-missing : tie.Need-slice-aggregate-first-missing
+slice-aggregate-first-missing c = search needs
+
+-- src/lib.rt:110:9
 first-missing-requires : tie.Need-first-missing-requires
 first-missing-requires c κs = search needs
 
 -- src/lib.rt:121:9
+slice-aggregate-first-line : tie.Need-slice-aggregate-first-line
+slice-aggregate-first-line c = search needs
+
+-- src/lib.rt:111:9
 first-line-requires : tie.Need-first-line-requires
 first-line-requires c κs = search needs
 
--- src/lib.rt:122:12
+-- src/lib.rt:123:12
 cast-decide : tie.Need-cast-decide
 cast-decide c = search needs
 
--- src/lib.rt:122:22
+-- src/lib.rt:123:22
 cast-decide-2 : tie.Need-cast-decide-2
 cast-decide-2 c = search needs
 
--- src/lib.rt:122:5
+-- src/lib.rt:123:5
 decide-requires : tie.Need-decide-requires
 decide-requires c κs = search needs
 
--- src/lib.rt:104:1
+-- src/lib.rt:92:1
 returns : tie.Need-returns
 returns c =
-    let s = c .before .before .before in
-    λ N E t. c .decide .ensures ∙ verdict-is N E _ _ _ _ _ _ (omega (arith, ap length (t .linesIs) ∙ length-view (s .args .nlines) (s .args .lines .now), s .pre .linesFew)) (t .tuplesIs) (t .standIs) (t .rootsIs) (c .before .before .first-missing .ensures .0) (c .before .first-line .ensures N E (t .boxesIs) (t .linesIs) (t .bindsIs) (t .holdIs) (t .standIs))
+    let s = c .before .before .before .before .before .before .before in
+    let made = c .before .before .before .before .before .fill .ensures .0 in
+    let low : Low (s .args .n) (s .args .rows .now) = search needs in
+    λ N E t. c .decide .ensures ∙ verdict-is N E _ _ _ _ _ _ (omega (arith, ap length (t .linesIs) ∙ length-view (s .args .nlines) (s .args .lines .now), s .pre .linesFew)) (t .tuplesIs) (t .standIs) (t .rootsIs) (c .before .before .before .first-missing .ensures .0 (s .args .n) (s .args .rows .now) made low) (c .before .first-line .ensures N E (t .boxesIs) (t .linesIs) (t .bindsIs) (t .holdIs) (t .standIs))
 
 pub judge-spec : {M : Type 1} → statement M
 judge-spec =
     tie.close
     (tie.spec
+    fill-requires
+    slice-aggregate-first-missing
     first-missing-requires
+    slice-aggregate-first-line
     first-line-requires
     cast-decide
     cast-decide-2

@@ -1,0 +1,16 @@
+use Prim.Native.Nat.{_/_, _%_}
+use native.Mathlib.Omega.{arith}
+use Rattle.matching.specs.Index.{words, inRows}
+use Rattle.matching.proofs.Index.{four-and}
+use Rattle.matching.proofs.in_both.Statement.{statement}
+use Rattle.matching.proofs.in_both.Tie as tie
+use Rattle.matching.proofs.in_both.Reads as reads
+use Rattle.matching.proofs.in_both.Lts as lts
+
+-- src/lib.rt:324:1
+returns : tie.Need-returns
+unfolding inRows words
+returns c = λ i h. four-and (i % 64) _ _ _ _ _ _ _ _ (i / 64) (omega arith)
+
+pub in-both-spec : {M : Type 1} → statement M
+in-both-spec = tie.close (tie.spec returns)

@@ -1,0 +1,33 @@
+use Prim.Native.Nat.{_/_, _%_}
+use native.Mathlib.Omega.{arith}
+use lib.Bits.{and-le-l}
+use Rattle.matching.specs.Index.{words, inRows}
+use Rattle.matching.proofs.Index.{four-less}
+use Rattle.matching.proofs.in_first.Statement.{statement}
+use Rattle.matching.proofs.in_first.Tie as tie
+use Rattle.matching.proofs.in_first.Reads as reads
+use Rattle.matching.proofs.in_first.Lts as lts
+
+-- src/lib.rt:338:12
+sub-t4 : tie.Need-sub-t4
+sub-t4 c = and-le-l _ _
+
+-- src/lib.rt:339:12
+sub-t6 : tie.Need-sub-t6
+sub-t6 c = and-le-l _ _
+
+-- src/lib.rt:340:12
+sub-t8 : tie.Need-sub-t8
+sub-t8 c = and-le-l _ _
+
+-- src/lib.rt:341:12
+sub-t10 : tie.Need-sub-t10
+sub-t10 c = and-le-l _ _
+
+-- src/lib.rt:334:1
+returns : tie.Need-returns
+unfolding inRows words
+returns c = λ i h. four-less (i % 64) _ _ _ _ _ _ _ _ (i / 64) (omega arith)
+
+pub in-first-spec : {M : Type 1} → statement M
+in-first-spec = tie.close (tie.spec sub-t4 sub-t6 sub-t8 sub-t10 returns)

@@ -1,0 +1,94 @@
+use mathlib.Core.Path.{ap}
+use Prim.Native.Nat.{ℕ, _+_, _*_, _/_, _%_}
+use native.Mathlib.Omega.{arith}
+use Rattle.sets.specs.Bits.{mem}
+use Rattle.matching.specs.Index.{words, inRows, inIndex}
+use Rattle.matching.proofs.Index.{four-at}
+use borrow.Author.Needs.{needs}
+use Rattle.matching.proofs.rows_with.Statement.{statement}
+use Rattle.matching.proofs.rows_with.Tie as tie
+use Rattle.matching.proofs.rows_with.Reads as reads
+use Rattle.matching.proofs.rows_with.Lts as lts
+
+-- src/lib.rt:302:14
+mul-at : tie.Need-mul-at
+mul-at c = search needs
+
+-- src/lib.rt:302:29
+mul-at-2 : tie.Need-mul-at-2
+mul-at-2 c = search needs
+
+-- src/lib.rt:302:14
+add-at : tie.Need-add-at
+add-at c = search needs
+
+-- src/lib.rt:303:13
+mul-a : tie.Need-mul-a
+mul-a c = search needs
+
+-- src/lib.rt:303:13
+shared-slice-read-a : tie.Need-shared-slice-read-a
+shared-slice-read-a c = search needs
+
+-- src/lib.rt:304:19
+add-b : tie.Need-add-b
+add-b c = search needs
+
+-- src/lib.rt:304:13
+mul-b : tie.Need-mul-b
+mul-b c = search needs
+
+-- src/lib.rt:304:13
+shared-slice-read-b : tie.Need-shared-slice-read-b
+shared-slice-read-b c = search needs
+
+-- src/lib.rt:305:19
+add-c : tie.Need-add-c
+add-c c = search needs
+
+-- src/lib.rt:305:13
+mul-c : tie.Need-mul-c
+mul-c c = search needs
+
+-- src/lib.rt:305:13
+shared-slice-read-c : tie.Need-shared-slice-read-c
+shared-slice-read-c c = search needs
+
+-- src/lib.rt:306:19
+add-d : tie.Need-add-d
+add-d c = search needs
+
+-- src/lib.rt:306:13
+mul-d : tie.Need-mul-d
+mul-d c = search needs
+
+-- src/lib.rt:306:13
+shared-slice-read-d : tie.Need-shared-slice-read-d
+shared-slice-read-d c = search needs
+
+-- src/lib.rt:298:1
+returns : tie.Need-returns
+unfolding inRows inIndex words
+returns c =
+    let s = c .before .before .before .before in
+    λ i h. ap (λ (x : ℕ). mem (i % 64) x) (four-at (s .args .index .now) (128 * s .args .column + 4 * s .args .v) (i / 64) (omega arith))
+
+pub rows-with-spec : {M : Type 1} → statement M
+rows-with-spec =
+    tie.close
+    (tie.spec
+    mul-at
+    mul-at-2
+    add-at
+    mul-a
+    shared-slice-read-a
+    add-b
+    mul-b
+    shared-slice-read-b
+    add-c
+    mul-c
+    shared-slice-read-c
+    add-d
+    mul-d
+    shared-slice-read-d
+    returns)
