@@ -8,7 +8,8 @@ use native.Mathlib.Omega.{arith}
 use lib.ListN.{getD}
 use Rattle.sets.specs.Lists.{Elem, _&_, imp, all, only, keep, _∪_, tableFrom, table, below}
 use Rattle.sets.specs.Bits.{mem, sites, within, joins}
-use Rattle.sets.proofs.Lists.{all-at, all-i, iff}
+use Rattle.sets.proofs.Lists.{all-at, all-i, all-same, iff}
+use Rattle.sets.proofs.Tables.{getD-table, in-below}
 use Rattle.sets.proofs.Bits.{within-joins}
 use Rattle.klaim.specs.declared.Loc.{Loc}
 use Rattle.klaim.specs.Net.{Net, Estimate, boxAt, holds}
@@ -50,26 +51,35 @@ pub all-sites : (f : ℕ → Bool) (m : ℕ) → allFrom (λ l. imp (mem l m) (f
 unfolding sites
 all-sites f m = all-below _ ∙ all-keep (λ l. mem l m) f (below 32)
 
--- the eval rule, site by site of the object
-eval-rule : (N : Net) (E : Estimate) (P : ℕ) (g : Loc) (k : ℕ) → all (λ t. all (λ l. within (joins (λ l′. boxAt N k l′ t) (sites (reach E P g))) (holds E l t)) (sites (reach E P g))) (below 32) ≡ evalRule N E P g k
-unfolding evalRule
-eval-rule N E P g k = iff
-    (λ h. all-i (λ l. all (λ l′. all (λ t. one l l′ t) (below 32)) (reached E P g)) (reached E P g) (λ l i. all-i (λ l′. all (λ t. one l l′ t) (below 32)) (reached E P g) (λ l′ j. all-i (λ t. one l l′ t) (below 32) (λ t b. all-at (λ l′. one l l′ t) j (sym (within-joins (λ l′. boxAt N k l′ t) (holds E l t) (reached E P g)) ∙ all-at (λ l. many l t) i (all-at (λ t. all (λ l. many l t) (reached E P g)) b h))))))
-    (λ h. all-i (λ t. all (λ l. many l t) (reached E P g)) (below 32) (λ t b. all-i (λ l. many l t) (reached E P g) (λ l i. within-joins (λ l′. boxAt N k l′ t) (holds E l t) (reached E P g) ∙ all-i (λ l′. one l l′ t) (reached E P g) (λ l′ j. all-at (λ t. one l l′ t) b (all-at (λ l′. all (λ t. one l l′ t) (below 32)) j (all-at (λ l. all (λ l′. all (λ t. one l l′ t) (below 32)) (reached E P g)) i h))))))
-  where
-    one : ℕ → ℕ → ℕ → Bool
-    one l l′ t = within (boxAt N k l′ t) (holds E l t)
+-- the eval rule, by what some site of the reach needs
+module _ (N : Net) (E : Estimate) (P : ℕ) (g : Loc) (k : ℕ) where
+  abbrev one : ℕ → ℕ → ℕ → Bool
+  one l l′ t = within (boxAt N k l′ t) (holds E l t)
 
-    many : ℕ → ℕ → Bool
-    many l t = within (joins (λ l′. boxAt N k l′ t) (sites (reach E P g))) (holds E l t)
+  abbrev many : ℕ → ℕ → Bool
+  many l t = within (joins (λ l′. boxAt N k l′ t) (sites (reach E P g))) (holds E l t)
 
-pub eval-rule-at : (N : Net) (E : Estimate) (P : ℕ) (g : Loc) (k m : ℕ) → m ≡ reach E P g → all (λ t. all (λ l. within (joins (λ l′. boxAt N k l′ t) (sites m)) (holds E l t)) (sites m)) (below 32) ≡ evalRule N E P g k
-eval-rule-at N E P g k m e = ap (λ (m : ℕ). all (λ t. all (λ l. within (joins (λ l′. boxAt N k l′ t) (sites m)) (holds E l t)) (sites m)) (below 32)) e ∙ eval-rule N E P g k
+  eval-rule : all (λ l. all (λ t. many l t) (below 32)) (sites (reach E P g)) ≡ evalRule N E P g k
+  unfolding evalRule
+  eval-rule = iff
+      (λ h. all-i (λ l. all (λ l′. all (λ t. one l l′ t) (below 32)) (reached E P g)) (reached E P g) (λ l i. all-i (λ l′. all (λ t. one l l′ t) (below 32)) (reached E P g) (λ l′ j. all-i (λ t. one l l′ t) (below 32) (λ t b. all-at (λ l′. one l l′ t) j (sym (within-joins (λ l′. boxAt N k l′ t) (holds E l t) (reached E P g)) ∙ all-at (λ t. many l t) b (all-at (λ l. all (λ t. many l t) (below 32)) i h))))))
+      (λ h. all-i (λ l. all (λ t. many l t) (below 32)) (reached E P g) (λ l i. all-i (λ t. many l t) (below 32) (λ t b. within-joins (λ l′. boxAt N k l′ t) (holds E l t) (reached E P g) ∙ all-i (λ l′. one l l′ t) (reached E P g) (λ l′ j. all-at (λ t. one l l′ t) b (all-at (λ l′. all (λ t. one l l′ t) (below 32)) j (all-at (λ l. all (λ l′. all (λ t. one l l′ t) (below 32)) (reached E P g)) i h))))))
+
+  pub eval-rule-at : (m : ℕ) (need : List ℕ) → need ≡ table 32 (λ t. joins (λ l. boxAt N k l t) (sites m)) → m ≡ reach E P g → all (λ l. all (λ t. within (getD need t 0) (holds E l t)) (below 32)) (sites m) ≡ evalRule N E P g k
+  eval-rule-at m need n e =
+      all-same (λ l. all (λ t. within (getD need t 0) (holds E l t)) (below 32)) (λ l. all (λ t. within (joins (λ l′. boxAt N k l′ t) (sites m)) (holds E l t)) (below 32)) (sites m)
+      (λ l _. all-same (λ t. within (getD need t 0) (holds E l t)) (λ t. within (joins (λ l′. boxAt N k l′ t) (sites m)) (holds E l t)) (below 32) (λ t i. ap (λ (x : ℕ). within x (holds E l t)) (ap (λ (xs : List ℕ). getD xs t 0) n ∙ getD-table 32 (λ t. joins (λ l. boxAt N k l t) (sites m)) t 0 (in-below 32 t i))))
+      ∙ ap (λ (m : ℕ). all (λ l. all (λ t. within (joins (λ l′. boxAt N k l′ t) (sites m)) (holds E l t)) (below 32)) (sites m)) e
+      ∙ eval-rule
 
 -- one site's E rights
-pub held-yes : (E : Estimate) (hs : List ℕ) (l t need m : ℕ) → E .hold ≡ hs → mem l m ≡ true → within need (getD hs (32 * l + t) 0) ≡ imp (mem l m) (within need (holds E l t))
-unfolding imp holds
-held-yes E hs l t need m e h = rw (h, e)
+pub hold-at : (E : Estimate) {hs : List ℕ} (l t : ℕ) → E .hold ≡ hs → getD hs (32 * l + t) 0 ≡ holds E l t
+unfolding holds
+hold-at E l t e = rw e
+
+pub held-yes : (b x : Bool) → b ≡ true → x ≡ imp b x
+unfolding imp
+held-yes b x h = rw h
 
 pub held-no : (b x : Bool) → b ≡ false → true ≡ imp b x
 unfolding imp

@@ -3,12 +3,12 @@ ghost use mathlib.Core.Path.{_≡_};
 ghost use mathlib.Core.Bool.{true};
 ghost use mathlib.Core.List.{_∷_, map};
 ghost use Prim.Native.Nat.{ℕ, _<_, _≤_, _+_};
-ghost use lib.ListN.{length, take};
-ghost use Rattle.sets.specs.Lists.{_&_, imp, all};
-ghost use Rattle.sets.specs.Bits.{mem, sites, within as isWithin};
+ghost use lib.ListN.{length, take, getD};
+ghost use Rattle.sets.specs.Lists.{_&_, imp, all, table, below};
+ghost use Rattle.sets.specs.Bits.{mem, sites, joins, within as isWithin};
 ghost use Rattle.klaim.specs.declared.Loc.{Loc as LocT};
 ghost use Rattle.klaim.specs.declared.Slot.the-variants.{Value};
-ghost use Rattle.klaim.specs.Net.{Net, Estimate, holds};
+ghost use Rattle.klaim.specs.Net.{Net, Estimate, boxAt, holds};
 ghost use Rattle.klaim.specs.Analysis.{reach as reachOf, outRule, getRule, evalRule};
 ghost use Rattle.klaim.specs.Invariant.{allBelow, distinct};
 ghost use Rattle.tables.specs.View.{rowsView, fieldBytes, locOf, slotOf, LowLoc, LowSlot};
@@ -163,30 +163,44 @@ pub fn within(a: u8, b: u8) -> bool
     a & b == a
 }
 
-// Whether site l is not in the set, or its E rights towards t hold what is needed.
-fn held(hold: &[u8; 1024], set: u32, l: u8, t: u8, need: u8) -> bool
-    requires { ⌜ (l < 32) × (t < 32) ⌝ }
-    ensures { λ r. ⌜ ((E : Estimate) → E .hold ≡ now (hold .entry) → r ≡ imp (mem l set) (isWithin need (holds E l t))) ⌝ }
+// The rights towards each site that sandbox k has, evaluated at some site of the set.
+fn needed(boxes: &[u8; 1056], k: u8, set: u32) -> [u8; 32]
+    requires { ⌜ k < 32 ⌝ }
+    ensures { λ r. ⌜ ((N : Net) → N .boxes ≡ now (boxes .entry) → r ≡ table 32 (λ t. joins (λ l. boxAt N k l t) (sites set))) ⌝ }
 {
-    let at = 32 * (l as usize) + (t as usize);
-    if sets::has_site(set, l) {
-        return within(need, hold[at]);
+    let mut r = [0u8; tables::SITES];
+    let mut t: usize = 0;
+    while t < tables::SITES {
+        r[t] = flow::box_over(boxes, k, set, t as u8);
+        t += 1;
     }
-    true
+    r
 }
 
-// Whether the E rights towards t of each site of the set hold what is needed.
-fn held_over(hold: &[u8; 1024], set: u32, t: u8, need: u8) -> bool
-    requires { ⌜ t < 32 ⌝ }
-    ensures { λ r. ⌜ ((E : Estimate) → E .hold ≡ now (hold .entry) → r ≡ all (λ l. isWithin need (holds E l t)) (sites set)) ⌝ }
+// Whether the E rights of site l hold what is needed towards every site.
+fn row_holds(hold: &[u8; 1024], l: u8, need: [u8; 32]) -> bool
+    requires { ⌜ l < 32 ⌝ }
+    ensures { λ r. ⌜ ((E : Estimate) → E .hold ≡ now (hold .entry) → r ≡ all (λ t. isWithin (getD need t 0) (holds E l t)) (below 32)) ⌝ }
 {
+    let at = tables::SITES * (l as usize);
     let mut ok = true;
-    let mut l: u8 = 32;
-    while 0 < l {
-        l -= 1;
-        ok = both(held(hold, set, l, t, need), ok);
+    let mut t: usize = tables::SITES;
+    while 0 < t {
+        t -= 1;
+        ok = both(within(need[t], hold[at + t]), ok);
     }
     ok
+}
+
+// Whether site l is not in the set, or its E rights hold what is needed.
+fn held(hold: &[u8; 1024], set: u32, l: u8, need: [u8; 32]) -> bool
+    requires { ⌜ l < 32 ⌝ }
+    ensures { λ r. ⌜ ((E : Estimate) → E .hold ≡ now (hold .entry) → r ≡ imp (mem l set) (all (λ t. isWithin (getD need t 0) (holds E l t)) (below 32))) ⌝ }
+{
+    if sets::has_site(set, l) {
+        return row_holds(hold, l, need);
+    }
+    true
 }
 
 // The rule of an eval line whose target has reach `set`, under sandbox k.
@@ -194,12 +208,12 @@ pub fn eval_rule(boxes: &[u8; 1056], hold: &[u8; 1024], set: u32, k: u8) -> bool
     requires { ⌜ k < 32 ⌝ }
     ensures { λ r. ⌜ ((N : Net) (E : Estimate) (P : ℕ) (g : LocT) → N .boxes ≡ now (boxes .entry) → E .hold ≡ now (hold .entry) → set ≡ reachOf E P g → r ≡ evalRule N E P g k) ⌝ }
 {
+    let need = needed(boxes, k, set);
     let mut ok = true;
-    let mut t: u8 = 32;
-    while 0 < t {
-        t -= 1;
-        let need = flow::box_over(boxes, k, set, t);
-        ok = both(held_over(hold, set, t, need), ok);
+    let mut l: u8 = 32;
+    while 0 < l {
+        l -= 1;
+        ok = both(held(hold, set, l, need), ok);
     }
     ok
 }
