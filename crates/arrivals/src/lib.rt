@@ -86,8 +86,9 @@ fn read_rows(n: u8, d: usize, s: &[u8]) -> ArrivalRows
     let mut tally = start(n);
     let mut at = 0;
     while at < s.len() {
-        let end = text::row_end(s, at);
-        let row = scan::row_at(s, at, end);
+        let next = scan::row_at(s, at);
+        let row = next.row;
+        let end = next.end;
         let number = row_number(row, tally, d);
         if number == 0 {
             stores::put_process(&mut lines, tally.lines, row);

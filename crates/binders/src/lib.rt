@@ -87,12 +87,11 @@ pub fn clashes(row: RowData) -> bool
 {
     let line = row.line;
     let kind = line.kind;
-    let sound = apart(line.fields);
     if kind == IN {
-        return !sound;
+        return !apart(line.fields);
     }
     if kind == READ {
-        return !sound;
+        return !apart(line.fields);
     }
     false
 }

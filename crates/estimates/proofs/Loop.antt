@@ -12,7 +12,7 @@ use borrow.Author.Tests.{eq-eqb, ne-eqb}
 use Rattle.sets.specs.Lists.{done, either, keep, table, tableFrom}
 use Rattle.sets.specs.Bits.{joins}
 use Rattle.sets.proofs.Lists.{and-l, leb-le}
-use Rattle.klaim.specs.Rows.{Row, newline, groupL, groupQ, groupB, groupE}
+use Rattle.klaim.specs.Rows.{Row, newline, groupL, groupQ, groupB, groupA, groupE}
 use Rattle.klaim.specs.Reader.{anEstimate, refused, gives, andThen, ofGroup, judge, scan, gather, readRows, estimateOf, readEstimate}
 use Rattle.klaim.proofs.Above.{last-none}
 use Rattle.text.specs.Pieces.{endOf}
@@ -27,6 +27,7 @@ use Rattle.scan.specs.Numbers.{judgedBy}
 use Rattle.scan.specs.Tallies.{countedOf}
 use Rattle.scan.specs.Tallies as Tallies
 use Rattle.scan.proofs.Progress.{progress-none, progress-more, progress-bad, progress-end, progress-refused, going-on, gather-none, row-within as within}
+use Rattle.repeats.specs.Kept.{KeysAre}
 use Rattle.estimates.specs.Rows.{EstimateTables, EstimateTally, Passed, fullOf, placedOf, startOf}
 use Rattle.estimates.specs.Read.{estimateAnswer}
 use Rattle.estimates.proofs.Rows.{tally-more, tuples-few}
@@ -39,13 +40,14 @@ pub record Running (t : Tally) : Type 0 where
   pub lineless : t .lines ≡ 0
 
 -- the text is read up to byte `at`
-pub record Reading (n : ℕ) (s binds stand hold : List ℕ) (t : Tally) (at : ℕ) : Type 0 where
-  pub progress : Progress (anEstimate n) (λ above. EstimateTables above binds stand (t .tuples) hold × EstimateTally n above t) s at (t .number) (t .rows)
+pub record Reading (n : ℕ) (s binds stand hold keys : List ℕ) (t : Tally) (at : ℕ) : Type 0 where
+  pub progress : Progress (anEstimate n) (λ above. EstimateTables above binds stand (t .tuples) hold × EstimateTally n above t × KeysAre groupA above keys (t .tuples)) s at (t .number) (t .rows)
   pub running : at < length s → Running t
   pub counted : t .rows ≤ at
   pub bindsLong : length binds ≡ 32
   pub standLong : length stand ≡ 1536
   pub holdLong : length hold ≡ 1024
+  pub keysLong : length keys ≡ 256
 
 tables-none : EstimateTables [] (replicate {A = ℕ} 32 0) (replicate {A = ℕ} 1536 0) 0 (replicate {A = ℕ} 1024 0)
 unfolding rowsView ofGroup keep table tableFrom
@@ -60,19 +62,24 @@ tally-none : (n : ℕ) → EstimateTally n [] (startOf n)
 unfolding startOf
 tally-none n = record { kept = done; owned = done; order = last-none; rows = refl; sizeIs = refl }
 
-pub reading-start : (n : ℕ) (s : List ℕ) (t : Tally) → t ≡ startOf n → Reading n s (replicate {A = ℕ} 32 0) (replicate {A = ℕ} 1536 0) (replicate {A = ℕ} 1024 0) t 0
+keys-none : KeysAre groupA [] (replicate {A = ℕ} 256 0) 0
+unfolding ofGroup keep
+keys-none = record { is = refl }
+
+pub reading-start : (n : ℕ) (s : List ℕ) (t : Tally) → t ≡ startOf n → Reading n s (replicate {A = ℕ} 32 0) (replicate {A = ℕ} 1536 0) (replicate {A = ℕ} 1024 0) (replicate {A = ℕ} 256 0) t 0
 unfolding startOf
-reading-start n s t e = subst (λ (t : Tally). Reading n s (replicate {A = ℕ} 32 0) (replicate {A = ℕ} 1536 0) (replicate {A = ℕ} 1024 0) t 0) (sym e) (record {
-  progress = progress-none (anEstimate n) s (tables-none, tally-none n);
+reading-start n s t e = subst (λ (t : Tally). Reading n s (replicate {A = ℕ} 32 0) (replicate {A = ℕ} 1536 0) (replicate {A = ℕ} 1024 0) (replicate {A = ℕ} 256 0) t 0) (sym e) (record {
+  progress = progress-none (anEstimate n) s (tables-none, tally-none n, keys-none);
   running = λ h. record { none = refl; few = omega arith; rootless = refl; lineless = refl };
   counted = omega arith;
   bindsLong = length-replicate {A = ℕ} 32 0;
   standLong = length-replicate {A = ℕ} 1536 0;
   holdLong = length-replicate {A = ℕ} 1024 0;
+  keysLong = length-replicate {A = ℕ} 256 0;
 })
 
 -- a row ends within the text
-pub row-within : {n at : ℕ} {s binds stand hold : List ℕ} {t : Tally} → Reading n s binds stand hold t at → at < length s → (e : ℕ) → e ≡ endOf newline s at → e ≤ length s
+pub row-within : {n at : ℕ} {s binds stand hold keys : List ℕ} {t : Tally} → Reading n s binds stand hold keys t at → at < length s → (e : ℕ) → e ≡ endOf newline s at → e ≤ length s
 row-within {n} {at} {s} R h e q = within s at e q h
 
 -- the counts with a row let through
@@ -88,37 +95,39 @@ running-more row t P R =
     }
 
 -- one row of the text, the tables and the tally of those above it, and the number that it is judged by
-module _ (n : ℕ) (s binds stand hold : List ℕ) (t : Tally) (at next : ℕ) (row : RowData) (number : ℕ)
-    (R : Reading n s binds stand hold t at) (h : at < length s) (left : rowsLeft s at ≡ rowView row ∷ rowsLeft s next)
-    (J : (m : ℕ) (above : List Row) → EstimateTally m above t → EstimateTables above binds stand (t .tuples) hold → judge (anEstimate m) above (rowView row) ≡ judgedBy number (rowData row)) where
-  pub reading-more : rowGood row ≡ true → number ≡ 0 → at < next → Passed row t → {binds₁ stand₁ hold₁ : List ℕ} → (length binds₁ ≡ 32) × (length stand₁ ≡ 1536) × (length hold₁ ≡ 1024) → ((above : List Row) → EstimateTables above binds stand (t .tuples) hold → EstimateTables (above ++ (rowData row ∷ [])) binds₁ stand₁ (countedOf row t .tuples) hold₁) → (u : Tally) → u ≡ countedOf row t → Reading n s binds₁ stand₁ hold₁ u next
+module _ (n : ℕ) (s binds stand hold keys : List ℕ) (t : Tally) (at next : ℕ) (row : RowData) (number : ℕ)
+    (R : Reading n s binds stand hold keys t at) (h : at < length s) (left : rowsLeft s at ≡ rowView row ∷ rowsLeft s next)
+    (J : (m : ℕ) (above : List Row) (stand : List ℕ) → EstimateTally m above t → EstimateTables above binds stand (t .tuples) hold → KeysAre groupA above keys (t .tuples) → judge (anEstimate m) above (rowView row) ≡ judgedBy number (rowData row)) where
+  pub reading-more : rowGood row ≡ true → number ≡ 0 → at < next → Passed row t → {binds₁ stand₁ hold₁ keys₁ : List ℕ} → (length binds₁ ≡ 32) × (length stand₁ ≡ 1536) × (length hold₁ ≡ 1024) → ((above : List Row) → EstimateTables above binds stand (t .tuples) hold → EstimateTables (above ++ (rowData row ∷ [])) binds₁ stand₁ (countedOf row t .tuples) hold₁) → length keys₁ ≡ 256 → ((above : List Row) → KeysAre groupA above keys (t .tuples) → KeysAre groupA (above ++ (rowData row ∷ [])) keys₁ (countedOf row t .tuples)) → (u : Tally) → u ≡ countedOf row t → Reading n s binds₁ stand₁ hold₁ keys₁ u next
   unfolding countedOf
-  reading-more G z l P {binds₁} {stand₁} {hold₁} L S u e =
+  reading-more G z l P {binds₁} {stand₁} {hold₁} {keys₁} L S M N u e =
       let g = going-on (R .progress) (R .running h .none) in
       let above = g .0 in
-      let j = J n above (g .1 .1) (g .1 .0) in
-      let p = progress-more (anEstimate n) (λ above. EstimateTables above binds₁ stand₁ (countedOf row t .tuples) hold₁ × EstimateTally n above (countedOf row t)) s at (t .rows) next row above number left (g .2) (g .3) j z (S above (g .1 .0), tally-more n above row t G (g .1 .1) P) in
-      subst (λ (u : Tally). Reading n s binds₁ stand₁ hold₁ u next) (sym e) (record {
-        progress = subst (λ (k : ℕ). Progress (anEstimate n) (λ above. EstimateTables above binds₁ stand₁ (countedOf row t .tuples) hold₁ × EstimateTally n above (countedOf row t)) s next k (t .rows + 1)) (sym (R .running h .none)) p;
+      let j = J n above stand (g .1 .1) (g .1 .0) (g .1 .2) in
+      let p = progress-more (anEstimate n) (λ above. EstimateTables above binds₁ stand₁ (countedOf row t .tuples) hold₁ × EstimateTally n above (countedOf row t) × KeysAre groupA above keys₁ (countedOf row t .tuples)) s at (t .rows) next row above number left (g .2) (g .3) j z (S above (g .1 .0), tally-more n above row t G (g .1 .1) P, N above (g .1 .2)) in
+      subst (λ (u : Tally). Reading n s binds₁ stand₁ hold₁ keys₁ u next) (sym e) (record {
+        progress = subst (λ (k : ℕ). Progress (anEstimate n) (λ above. EstimateTables above binds₁ stand₁ (countedOf row t .tuples) hold₁ × EstimateTally n above (countedOf row t) × KeysAre groupA above keys₁ (countedOf row t .tuples)) s next k (t .rows + 1)) (sym (R .running h .none)) p;
         running = λ q. running-more row t P (R .running h);
         counted = omega (arith, R .counted);
         bindsLong = L .0;
         standLong = L .1;
         holdLong = L .2;
+        keysLong = M;
       })
 
-  pub reading-bad : (number ≡ 0 → ⊥) → (u : Tally) → u .number ≡ number → u .rows ≡ t .rows + 1 → (end : ℕ) → end ≡ length s → Reading n s binds stand hold u end
+  pub reading-bad : (number ≡ 0 → ⊥) → (u : Tally) → u .number ≡ number → u .rows ≡ t .rows + 1 → (end : ℕ) → end ≡ length s → Reading n s binds stand hold keys u end
   reading-bad z u e m end q =
       let g = going-on (R .progress) (R .running h .none) in
       let above = g .0 in
-      let p = progress-bad (anEstimate n) (λ above. EstimateTables above binds stand (u .tuples) hold × EstimateTally n above u) s at (t .rows) next row above number left (g .2) (g .3) (J n above (g .1 .1) (g .1 .0)) end (omega arith) in
+      let p = progress-bad (anEstimate n) (λ above. EstimateTables above binds stand (u .tuples) hold × EstimateTally n above u × KeysAre groupA above keys (u .tuples)) s at (t .rows) next row above number left (g .2) (g .3) (J n above stand (g .1 .1) (g .1 .0) (g .1 .2)) end (omega arith) in
       record {
-        progress = subst (λ (k : ℕ). Progress (anEstimate n) (λ above. EstimateTables above binds stand (u .tuples) hold × EstimateTally n above u) s end (u .number) k) (sym m) (subst (λ (k : ℕ). Progress (anEstimate n) (λ above. EstimateTables above binds stand (u .tuples) hold × EstimateTally n above u) s end k (t .rows + 1)) (sym e) p);
+        progress = subst (λ (k : ℕ). Progress (anEstimate n) (λ above. EstimateTables above binds stand (u .tuples) hold × EstimateTally n above u × KeysAre groupA above keys (u .tuples)) s end (u .number) k) (sym m) (subst (λ (k : ℕ). Progress (anEstimate n) (λ above. EstimateTables above binds stand (u .tuples) hold × EstimateTally n above u × KeysAre groupA above keys (u .tuples)) s end k (t .rows + 1)) (sym e) p);
         running = λ l. absurd (omega arith);
         counted = omega (arith, R .counted);
         bindsLong = R .bindsLong;
         standLong = R .standLong;
         holdLong = R .holdLong;
+        keysLong = R .keysLong;
       }
 
 -- the tables are the estimate that the rows say
@@ -126,15 +135,15 @@ tables-say : {above : List Row} {binds stand hold : List ℕ} {k : ℕ} → Esti
 unfolding estimateView estimateOf
 tables-say T = rw (T .bindsIs, T .standIs, T .holdIs)
 
-pub reading-end : (n : ℕ) (s binds stand hold : List ℕ) (t : Tally) (at : ℕ) → Reading n s binds stand hold t at → length s ≤ at → estimateAnswer (record { number = t .number; row = t .rows; estimate = record { binds = binds; stand = stand; nstand = t .tuples; hold = hold } }) ≡ readEstimate n s
+pub reading-end : (n : ℕ) (s binds stand hold keys : List ℕ) (t : Tally) (at : ℕ) → Reading n s binds stand hold keys t at → length s ≤ at → estimateAnswer (record { number = t .number; row = t .rows; estimate = record { binds = binds; stand = stand; nstand = t .tuples; hold = hold } }) ≡ readEstimate n s
 unfolding estimateAnswer readEstimate andThen
-reading-end n s binds stand hold t at R h = go (ℕ-discrete (t .number) 0)
+reading-end n s binds stand hold keys t at R h = go (ℕ-discrete (t .number) 0)
   where
     E : Estimate
     E = record { binds = binds; stand = stand; nstand = t .tuples; hold = hold }
 
     go : Dec (t .number ≡ 0) → cond (eqb (t .number) 0) (gives (estimateView E)) (refused (t .number) (t .rows)) ≡ andThen (readRows (anEstimate n) s) (λ rows. gives (estimateOf rows))
     go (yes e) =
-        let p = progress-end (subst (λ (k : ℕ). Progress (anEstimate n) (λ above. EstimateTables above binds stand (t .tuples) hold × EstimateTally n above t) s at k (t .rows)) e (R .progress)) h in
+        let p = progress-end (subst (λ (k : ℕ). Progress (anEstimate n) (λ above. EstimateTables above binds stand (t .tuples) hold × EstimateTally n above t × KeysAre groupA above keys (t .tuples)) s at k (t .rows)) e (R .progress)) h in
         rw (eq-eqb (t .number) 0 e, p .3) (ap gives (tables-say (p .1 .0)))
     go (no e) = rw (ne-eqb (t .number) 0 e, progress-refused (R .progress) e)

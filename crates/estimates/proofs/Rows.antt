@@ -25,6 +25,8 @@ use Rattle.scan.specs.Tallies as Tallies
 use Rattle.scan.proofs.Numbers.{group-is, formed, not-formed, early-passed}
 use Rattle.scan.proofs.Tallies.{and-under, group-none}
 use Rattle.repeats.proofs.Rows.{as-kept}
+use Rattle.repeats.specs.Kept.{KeysAre}
+use Rattle.repeats.proofs.Keys.{keys-other}
 use Rattle.estimates.specs.Rows.{EstimateTables, EstimateTally, Passed, fullOf, placedOf}
 
 -- the tables, with a row more that stands in one of them
@@ -138,6 +140,11 @@ module _ (n : ℕ) (above : List Row) (row : RowData) (t : Tally) (G : rowGood r
 pub passed : (row : RowData) (t : Tally) → earlyOf row (fullOf (row .group) t) (placedOf (row .group) t) ≡ 0 → Passed row t
 passed row t e = let p = early-passed row e in record { some = p .0; low = p .1; room = p .2; placed = p .3 }
 
+-- a row in its place is no Q row
+pub no-process : (row : RowData) (t : Tally) → Passed row t → row .group ≡ groupQ → ⊥
+unfolding placedOf
+no-process row t P e = let l = leb-le groupB (row .group) (and-l _ _ (P .placed)) in omega arith
+
 -- a row in its place that is no B and no A row is an E row
 pub last-group : (row : RowData) (t : Tally) → rowGood row ≡ true → Passed row t → (row .group ≡ groupB → ⊥) → (row .group ≡ groupA → ⊥) → row .group ≡ groupE
 unfolding rowGood plainGood pairGroup tupleGroup either placedOf
@@ -199,3 +206,17 @@ module _ (row : RowData) (t : Tally) (G : rowGood row ≡ true) (P : Passed row 
   stored-e e h =
       let by = subst (λ (g : ℕ). hold ≡ gather 1024 pairPlace (λ r. r .rights) (ofGroup g above) → new ≡ gather 1024 pairPlace (λ r. r .rights) (ofGroup g (above ++ (rowData row ∷ [])))) e h in
       subst (λ (k : ℕ). EstimateTables (above ++ (rowData row ∷ [])) binds stand k new) (tuples-e row t e) (tables-e T (rowData row) (group-is row G (P .some) ∙ e) (by (T .holdIs)))
+
+-- the keys with a row put in
+module _ (row : RowData) (t : Tally) (G : rowGood row ≡ true) (P : Passed row t) {above : List Row} {keys : List ℕ} (K : KeysAre groupA above keys (t .tuples)) where
+  pub keys-miss : (row .group ≡ groupA → ⊥) → KeysAre groupA (above ++ (rowData row ∷ [])) keys (countedOf row t .tuples)
+  unfolding tupleGroup either placedOf
+  keys-miss away =
+      let l = leb-le groupB (row .group) (and-l _ _ (P .placed)) in
+      let e : tupleGroup (row .group) ≡ false = rw (ne-eqb (row .group) groupT (λ z. omega arith), ne-eqb (row .group) groupA away) in
+      subst (λ (k : ℕ). KeysAre groupA (above ++ (rowData row ∷ [])) keys k) (tuples-by row t false e) (keys-other (rowData row) (λ q. away (sym (group-is row G (P .some)) ∙ q)) K)
+
+  pub keys-hit : {new : List ℕ} → row .group ≡ groupA → (KeysAre (row .group) above keys (t .tuples) → KeysAre (row .group) (above ++ (rowData row ∷ [])) new (t .tuples + 1)) → KeysAre groupA (above ++ (rowData row ∷ [])) new (countedOf row t .tuples)
+  keys-hit {new} e h =
+      let by = subst (λ (g : ℕ). KeysAre g above keys (t .tuples) → KeysAre g (above ++ (rowData row ∷ [])) new (t .tuples + 1)) e h in
+      subst (λ (k : ℕ). KeysAre groupA (above ++ (rowData row ∷ [])) new k) (tuples-a row t e) (by K)

@@ -4,11 +4,12 @@ ghost use mathlib.Core.Bool.{true};
 ghost use mathlib.Core.List.{List, [], _∷_, _++_};
 ghost use Prim.Native.Nat.{ℕ, _+_, _<_, _≤_};
 ghost use lib.ListN.{length};
-ghost use Rattle.klaim.specs.Rows.{Row};
+ghost use Rattle.klaim.specs.Rows.{Row, groupA};
 ghost use Rattle.klaim.specs.Reader.{anEstimate, judge, repeated, readEstimate};
 ghost use Rattle.forms.specs.Forms.{rowView, rowData, rowGood};
 ghost use Rattle.scan.specs.Numbers.{judgedBy};
 ghost use Rattle.scan.specs.Tallies.{countedOf};
+ghost use Rattle.repeats.specs.Kept.{KeysAre};
 ghost use Rattle.estimates.specs.Rows.{EstimateTables, EstimateTally, Passed, fullOf, placedOf, startOf};
 ghost use Rattle.estimates.specs.Read.{estimateAnswer};
 use forms::RowData;
@@ -52,19 +53,19 @@ fn is_seen(
     row: RowData,
     tally: Tally,
     binds: &[u32; 32],
-    stand: &[u8; 1536],
+    keys: &[u32; 256],
     hold: &[u8; 1024],
 ) -> bool
     requires { ⌜ rowGood row ≡ true ⌝ }
     requires { ⌜ Passed row tally ⌝ }
     requires { ⌜ tally .tuples ≤ 256 ⌝ }
-    requires { ⌜ (length (now binds) ≡ 32) × (length (now stand) ≡ 1536) × (length (now hold) ≡ 1024) ⌝ }
-    ensures { λ r. ⌜ ((n : ℕ) (above : List Row) → EstimateTally n above tally → EstimateTables above (now (binds .entry)) (now (stand .entry)) (tally .tuples) (now (hold .entry)) → r ≡ repeated above (rowData row)) ⌝ }
+    requires { ⌜ (length (now binds) ≡ 32) × (length (now keys) ≡ 256) × (length (now hold) ≡ 1024) ⌝ }
+    ensures { λ r. ⌜ ((n : ℕ) (above : List Row) (stand : List ℕ) → EstimateTally n above tally → EstimateTables above (now (binds .entry)) stand (tally .tuples) (now (hold .entry)) → KeysAre groupA above (now (keys .entry)) (tally .tuples) → r ≡ repeated above (rowData row)) ⌝ }
 {
     let group = row.group;
     match group {
         GROUP_B => repeats::bound_seen(binds, row),
-        GROUP_A => repeats::tuple_seen(stand, tally.tuples, row),
+        GROUP_A => repeats::tuple_seen(keys, tally.tuples, row),
         _ => repeats::pair_seen(hold, row),
     }
 }
@@ -74,13 +75,13 @@ fn row_number(
     row: RowData,
     tally: Tally,
     binds: &[u32; 32],
-    stand: &[u8; 1536],
+    keys: &[u32; 256],
     hold: &[u8; 1024],
 ) -> u8
     requires { ⌜ rowGood row ≡ true ⌝ }
     requires { ⌜ tally .tuples ≤ 256 ⌝ }
-    requires { ⌜ (length (now binds) ≡ 32) × (length (now stand) ≡ 1536) × (length (now hold) ≡ 1024) ⌝ }
-    ensures { λ r. ⌜ ((n : ℕ) (above : List Row) → EstimateTally n above tally → EstimateTables above (now (binds .entry)) (now (stand .entry)) (tally .tuples) (now (hold .entry)) → judge (anEstimate n) above (rowView row) ≡ judgedBy r (rowData row)) ⌝ }
+    requires { ⌜ (length (now binds) ≡ 32) × (length (now keys) ≡ 256) × (length (now hold) ≡ 1024) ⌝ }
+    ensures { λ r. ⌜ ((n : ℕ) (above : List Row) (stand : List ℕ) → EstimateTally n above tally → EstimateTables above (now (binds .entry)) stand (tally .tuples) (now (hold .entry)) → KeysAre groupA above (now (keys .entry)) (tally .tuples) → judge (anEstimate n) above (rowView row) ≡ judgedBy r (rowData row)) ⌝ }
     ensures { λ r. ⌜ (r ≡ 0 → Passed row tally) ⌝ }
 {
     let group = row.group;
@@ -88,10 +89,10 @@ fn row_number(
     if first != 0 {
         return first;
     }
-    if is_seen(row, tally, binds, stand, hold) {
+    if is_seen(row, tally, binds, keys, hold) {
         return 3;
     }
-    scan::late(row, tally.size)
+    scan::sited(row, tally.size)
 }
 
 // The row put into its table.
@@ -122,6 +123,21 @@ fn store(
     }
 }
 
+// The key of an A row put beside those above.
+fn keep_key(row: RowData, tally: Tally, keys: &mut [u32; 256])
+    requires { ⌜ rowGood row ≡ true ⌝ }
+    requires { ⌜ Passed row tally ⌝ }
+    requires { ⌜ length (now keys) ≡ 256 ⌝ }
+    ensures { λ r. ⌜ length (now (keys .exit)) ≡ 256 ⌝ }
+    ensures { λ r. ⌜ ((above : List Row) → KeysAre groupA above (now (keys .entry)) (tally .tuples) → KeysAre groupA (above ++ (rowData row ∷ [])) (now (keys .exit)) (countedOf row tally .tuples)) ⌝ }
+{
+    let group = row.group;
+    if group != GROUP_A {
+        return;
+    }
+    repeats::put_key(keys, tally.tuples, row);
+}
+
 // The tally of no rows.
 fn start(n: u8) -> Tally
     ensures { λ r. ⌜ r ≡ startOf n ⌝ }
@@ -144,15 +160,18 @@ pub fn read_estimate(n: u8, s: &[u8]) -> EstimateRead
 {
     let mut binds = [0u32; 32];
     let mut stand = [0u8; 1536];
+    let mut keys = [0u32; 256];
     let mut hold = [0u8; 1024];
     let mut tally = start(n);
     let mut at = 0;
     while at < s.len() {
-        let end = text::row_end(s, at);
-        let row = scan::row_at(s, at, end);
-        let number = row_number(row, tally, &binds, &stand, &hold);
+        let next = scan::row_at(s, at);
+        let row = next.row;
+        let end = next.end;
+        let number = row_number(row, tally, &binds, &keys, &hold);
         if number == 0 {
             store(row, tally, &mut binds, &mut stand, &mut hold);
+            keep_key(row, tally, &mut keys);
             tally = scan::counted(row, tally);
             at = end + 1;
         } else {

@@ -80,7 +80,25 @@ pub letter-low : (f : List ℕ) → letterOf f ≤ 9
 unfolding letterOf
 letter-low f = omega (arith, placed-low 0 letters f)
 
+pub row-of-pair : (fs : List (List ℕ)) (g : ℕ) → letterOf (at fs 0) ≡ g → (g ≡ groupR) ⊎ (g ≡ groupE) → rowForm fs ≡ rowPair g fs
+row-of-pair fs g h (inl e) = rw e (row-of-group fs 1 (h ∙ e))
+row-of-pair fs g h (inr e) = rw e (row-of-group fs 8 (h ∙ e))
+
+pub row-of-tuple : (fs : List (List ℕ)) (g : ℕ) → letterOf (at fs 0) ≡ g → (g ≡ groupT) ⊎ (g ≡ groupA) → rowForm fs ≡ rowTuple g fs
+row-of-tuple fs g h (inl e) = rw e (row-of-group fs 3 (h ∙ e))
+row-of-tuple fs g h (inr e) = rw e (row-of-group fs 7 (h ∙ e))
+
 -- the groups of pairs and of tuples
+pub pair-group : (g : ℕ) → (g ≡ groupR) ⊎ (g ≡ groupE) → pairGroup g ≡ true
+unfolding pairGroup either
+pair-group g (inl e) = rw e refl
+pair-group g (inr e) = rw e refl
+
+pub tuple-group : (g : ℕ) → (g ≡ groupT) ⊎ (g ≡ groupA) → tupleGroup g ≡ true
+unfolding tupleGroup either
+tuple-group g (inl e) = rw e refl
+tuple-group g (inr e) = rw e refl
+
 pub pair-case : (g : ℕ) → pairGroup g ≡ true → (g ≡ groupR) ⊎ (g ≡ groupE)
 unfolding pairGroup
 pair-case g h = go (or-case _ _ h)

@@ -309,25 +309,22 @@ fn row_in(group: u8, row: &[u8], edges: &[usize; EDGES], n: usize) -> RowData
 {
     match group {
         GROUP_N => row_n(row, edges, n),
-        GROUP_R => row_pair(GROUP_R, row, edges, n),
+        GROUP_R | GROUP_E => row_pair(group, row, edges, n),
         GROUP_D => row_box(row, edges, n),
-        GROUP_T => row_tuple(GROUP_T, row, edges, n),
+        GROUP_T | GROUP_A => row_tuple(group, row, edges, n),
         GROUP_L => row_root(row, edges, n),
         GROUP_Q => row_q(row, edges, n),
         GROUP_B => row_bound(row, edges, n),
-        GROUP_A => row_tuple(GROUP_A, row, edges, n),
-        GROUP_E => row_pair(GROUP_E, row, edges, n),
         _ => NO_ROW,
     }
 }
 
-// The form of a row, without the byte that ends it.
-pub fn row_of(row: &[u8]) -> RowData
+// The form of a row of n fields, without the byte that ends it.
+pub fn row_of(row: &[u8], edges: &[usize; EDGES], n: usize) -> RowData
+    requires { ⌜ Cut (now row) (now edges) n ⌝ }
     ensures { λ r. ⌜ rowView r ≡ rowOf (now (row .entry)) ⌝ }
     ensures { λ r. ⌜ rowGood r ≡ true ⌝ }
 {
-    let mut edges = [0usize; EDGES];
-    let n = text::cuts(row, &mut edges);
-    let group = text::letter(text::field(row, &edges, n, 0));
-    row_in(group, row, &edges, n)
+    let group = text::letter(text::field(row, edges, n, 0));
+    row_in(group, row, edges, n)
 }

@@ -4,12 +4,13 @@ ghost use mathlib.Core.Bool.{true};
 ghost use mathlib.Core.List.{List, [], _∷_, _++_, map};
 ghost use Prim.Native.Nat.{ℕ, _<_, _≤_};
 ghost use lib.ListN.{length};
-ghost use Rattle.klaim.specs.Rows.{Row};
+ghost use Rattle.klaim.specs.Rows.{Row, groupT};
 ghost use Rattle.klaim.specs.Reader.{aNet, judge, inLimits, repeated, readNet};
 ghost use Rattle.forms.specs.Forms.{rowView, rowData, rowGood};
 ghost use Rattle.scan.specs.Numbers.{judgedBy};
 ghost use Rattle.scan.specs.Tallies.{countedOf};
 ghost use Rattle.tables.specs.View.{linesView, rootsView};
+ghost use Rattle.repeats.specs.Kept.{KeysAre};
 ghost use Rattle.nets.specs.Rows.{NetTables, NetTally, Room, fullOf, placedOf, Passed};
 ghost use Rattle.nets.specs.Read.{netAnswer, wholeNumber, refusalOf};
 use forms::RowData;
@@ -69,21 +70,21 @@ fn is_seen(
     tally: Tally,
     homes: &[u8; 1024],
     boxes: &[u8; 1056],
-    tuples: &[u8; 1536],
+    keys: &[u32; 256],
     roots: &[u8; 128],
 ) -> bool
     requires { ⌜ rowGood row ≡ true ⌝ }
     requires { ⌜ 0 < row .group ⌝ }
     requires { ⌜ inLimits (rowData row) ≡ true ⌝ }
     requires { ⌜ placedOf (row .group) tally ≡ true ⌝ }
-    requires { ⌜ Room tally × (length (now homes) ≡ 1024) × (length (now boxes) ≡ 1056) × (length (now tuples) ≡ 1536) × (length (now roots) ≡ 128) ⌝ }
-    ensures { λ r. ⌜ ((above : List Row) (lines : List ℕ) → NetTally above tally → NetTables above (now (homes .entry)) (now (boxes .entry)) (now (tuples .entry)) (tally .tuples) (now (roots .entry)) (tally .roots) lines (tally .lines) → r ≡ repeated above (rowData row)) ⌝ }
+    requires { ⌜ Room tally × (length (now homes) ≡ 1024) × (length (now boxes) ≡ 1056) × (length (now keys) ≡ 256) × (length (now roots) ≡ 128) ⌝ }
+    ensures { λ r. ⌜ ((above : List Row) (tuples lines : List ℕ) → NetTally above tally → NetTables above (now (homes .entry)) (now (boxes .entry)) tuples (tally .tuples) (now (roots .entry)) (tally .roots) lines (tally .lines) → KeysAre groupT above (now (keys .entry)) (tally .tuples) → r ≡ repeated above (rowData row)) ⌝ }
 {
     let group = row.group;
     match group {
         GROUP_R => repeats::pair_seen(homes, row),
         GROUP_D => repeats::box_seen(boxes, row),
-        GROUP_T => repeats::tuple_seen(tuples, tally.tuples, row),
+        GROUP_T => repeats::tuple_seen(keys, tally.tuples, row),
         GROUP_L => repeats::root_seen(roots, tally.roots, row),
         _ => false,
     }
@@ -95,12 +96,12 @@ fn row_number(
     tally: Tally,
     homes: &[u8; 1024],
     boxes: &[u8; 1056],
-    tuples: &[u8; 1536],
+    keys: &[u32; 256],
     roots: &[u8; 128],
 ) -> u8
     requires { ⌜ rowGood row ≡ true ⌝ }
-    requires { ⌜ Room tally × (length (now homes) ≡ 1024) × (length (now boxes) ≡ 1056) × (length (now tuples) ≡ 1536) × (length (now roots) ≡ 128) ⌝ }
-    ensures { λ r. ⌜ ((above : List Row) (lines : List ℕ) → NetTally above tally → NetTables above (now (homes .entry)) (now (boxes .entry)) (now (tuples .entry)) (tally .tuples) (now (roots .entry)) (tally .roots) lines (tally .lines) → judge aNet above (rowView row) ≡ judgedBy r (rowData row)) ⌝ }
+    requires { ⌜ Room tally × (length (now homes) ≡ 1024) × (length (now boxes) ≡ 1056) × (length (now keys) ≡ 256) × (length (now roots) ≡ 128) ⌝ }
+    ensures { λ r. ⌜ ((above : List Row) (tuples lines : List ℕ) → NetTally above tally → NetTables above (now (homes .entry)) (now (boxes .entry)) tuples (tally .tuples) (now (roots .entry)) (tally .roots) lines (tally .lines) → KeysAre groupT above (now (keys .entry)) (tally .tuples) → judge aNet above (rowView row) ≡ judgedBy r (rowData row)) ⌝ }
     ensures { λ r. ⌜ (r ≡ 0 → Passed row tally) ⌝ }
 {
     let group = row.group;
@@ -108,7 +109,7 @@ fn row_number(
     if first != 0 {
         return first;
     }
-    if is_seen(row, tally, homes, boxes, tuples, roots) {
+    if is_seen(row, tally, homes, boxes, keys, roots) {
         return 3;
     }
     scan::late(row, tally.size)
@@ -149,6 +150,21 @@ fn store(
         }
         _ => {}
     }
+}
+
+// The key of a T row put beside those above.
+fn keep_key(row: RowData, tally: Tally, keys: &mut [u32; 256])
+    requires { ⌜ rowGood row ≡ true ⌝ }
+    requires { ⌜ Passed row tally ⌝ }
+    requires { ⌜ length (now keys) ≡ 256 ⌝ }
+    ensures { λ r. ⌜ length (now (keys .exit)) ≡ 256 ⌝ }
+    ensures { λ r. ⌜ ((above : List Row) → KeysAre groupT above (now (keys .entry)) (tally .tuples) → KeysAre groupT (above ++ (rowData row ∷ [])) (now (keys .exit)) (countedOf row tally .tuples)) ⌝ }
+{
+    let group = row.group;
+    if group != GROUP_T {
+        return;
+    }
+    repeats::put_key(keys, tally.tuples, row);
 }
 
 // 5, 6, 8 or 0, over the whole net: its lines in turn and in order with the roots among them, each named once, the roots closed.
@@ -207,14 +223,16 @@ pub fn read_net(s: &[u8]) -> NetRead
     let mut homes = [0u8; 1024];
     let mut boxes = [0u8; 1056];
     let mut tuples = [0u8; 1536];
+    let mut keys = [0u32; 256];
     let mut roots = [0u8; 128];
     let mut lines = [0u8; 2560];
     let mut tally = scan::start(0);
     let mut at = 0;
     while at < s.len() {
-        let end = text::row_end(s, at);
-        let row = scan::row_at(s, at, end);
-        let number = row_number(row, tally, &homes, &boxes, &tuples, &roots);
+        let next = scan::row_at(s, at);
+        let row = next.row;
+        let end = next.end;
+        let number = row_number(row, tally, &homes, &boxes, &keys, &roots);
         if number == 0 {
             store(
                 row,
@@ -225,6 +243,7 @@ pub fn read_net(s: &[u8]) -> NetRead
                 &mut roots,
                 &mut lines,
             );
+            keep_key(row, tally, &mut keys);
             tally = scan::counted(row, tally);
             at = end + 1;
         } else {

@@ -2,3 +2,4 @@ pub mod Marks
 pub mod Rows
 pub mod Repeats
 pub mod Tuples
+pub mod Keys

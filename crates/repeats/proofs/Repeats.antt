@@ -22,8 +22,9 @@ use Rattle.forms.specs.declared.RowData.{RowData}
 use Rattle.forms.specs.Forms.{rowData, rowGood, pairGroup, tupleGroup}
 use Rattle.forms.proofs.RowForms.{pair-case, tuple-case, pair-some, tuple-some}
 use Rattle.judge.proofs.Tests.{and-true}
-use Rattle.repeats.specs.Kept.{Kept, rootSame}
+use Rattle.repeats.specs.Kept.{Kept, rootSame, keyOf}
 use Rattle.repeats.proofs.Marks.{any-keep, any-map, joins-some, joins-mem, two-same}
+use Rattle.repeats.proofs.Keys.{key-same, sites-low}
 use Rattle.repeats.proofs.Rows.{PairRow, BoxRow, BoundRow, RootRow, group-is, pair-row, box-row, bound-row, root-row, tuple-row, kept-pair, kept-box, kept-bound, kept-root, kept-tuple}
 
 true-and : (b : Bool) → (true & b) ≡ b
@@ -190,12 +191,12 @@ root-alike {s} {q} {t} {p} {b} {r} B R e =
     ∙ ap (λ (x : Root). eqb (x .site) t & eqb (x .line) p) (sym (B .root-is))
 
 module _ (row : RowData) (G : rowGood row ≡ true) (L : inLimits (rowData row) ≡ true) where
-  pub tuple-seen : (P : tupleGroup (row .group) ≡ true) (ss : List ℕ) → ss ≡ rowData row .sites → (xs : List (List ℕ)) {above : List Row} → All Kept above → xs ≡ map (λ x. x .sites) (ofGroup (row .group) above) → any (λ x. same x ss) xs ≡ repeated above (rowData row)
-  tuple-seen P ss s xs {above} K e =
+  pub tuple-seen : (P : tupleGroup (row .group) ≡ true) (k : ℕ) → k ≡ keyOf (rowData row .sites) → (xs : List ℕ) {above : List Row} → All Kept above → xs ≡ map (λ x. keyOf (x .sites)) (ofGroup (row .group) above) → any (λ x. eqb x k) xs ≡ repeated above (rowData row)
+  tuple-seen P k s xs {above} K e =
       let g = group-is row G (ltb-true 0 (row .group) (tuple-some (row .group) P)) in
       let of : (b : Row) → Kept b → b .group ≡ row .group → tupleGroup (b .group) ≡ true = λ b k q. subst (λ (x : ℕ). tupleGroup x ≡ true) (sym q) P in
-      list-seen (rowData row) (row .group) g (tuple-no-q (row .group) P) (λ x. x .sites) (λ x. same x ss)
-      (λ b k q. keys-same b (rowData row) (b .sites) (rowData row .sites) (kept-tuple k (of b k q)) (tuple-row row G P) (q ∙ sym g) ∙ ap (same (b .sites)) (sym s)) xs K e
+      list-seen (rowData row) (row .group) g (tuple-no-q (row .group) P) (λ x. keyOf (x .sites)) (λ x. eqb x k)
+      (λ b kept q. keys-same b (rowData row) (b .sites) (rowData row .sites) (kept-tuple kept (of b kept q)) (tuple-row row G P) (q ∙ sym g) ∙ key-same (b .sites) (rowData row .sites) (sites-low b (kept .low)) (sites-low (rowData row) L) ∙ ap (eqb (keyOf (b .sites))) (sym s)) xs K e
 
   pub root-seen : row .group ≡ groupL → (xs : List Root) {above : List Row} → All Kept above → xs ≡ map rootOf (ofGroup groupL above) → any (rootSame (row .line .target .number) (row .own)) xs ≡ repeated above (rowData row)
   root-seen P xs {above} K e =

@@ -1,19 +1,19 @@
 //! Whether a row repeats one of the rows above it, read off the tables that hold them.
 ghost use mathlib.Core.Path.{_≡_};
 ghost use mathlib.Core.Bool.{true};
-ghost use mathlib.Core.List.{List, map};
-ghost use Prim.Native.Nat.{_^_, _<_, _≤_};
-ghost use lib.ListN.{length, getD};
-ghost use Rattle.sets.specs.Lists.{All, any, same};
+ghost use mathlib.Core.List.{List, [], _∷_, _++_, map};
+ghost use Prim.Native.Nat.{_+_, _*_, _^_, _<_, _≤_};
+ghost use lib.Dec.{eqb};
+ghost use lib.ListN.{length, getD, take};
+ghost use Rattle.sets.specs.Lists.{All, any, either};
 ghost use Rattle.klaim.specs.Rows.{Row, groupD, groupL, groupB};
 ghost use Rattle.klaim.specs.Reader.{inLimits, ofGroup, repeated, nth, gather, pairPlace, boxPlace, rootOf};
 ghost use Rattle.text.specs.Fields.{sitesTo};
 ghost use Rattle.forms.specs.Forms.{rowData, rowGood, pairGroup, tupleGroup};
-ghost use Rattle.tables.specs.View.{rowAt, rowsView, rootAt, rootsView};
-ghost use Rattle.repeats.specs.Kept.{Kept, rootSame};
+ghost use Rattle.tables.specs.View.{rowAt, rootAt, rootsView};
+ghost use Rattle.repeats.specs.Kept.{Kept, rootSame, keyOf, keyStep, KeysAre};
 use forms::RowData;
 use tables::ROOT;
-use tables::TUPLE;
 use text::Name;
 use text::SITE;
 
@@ -80,76 +80,86 @@ pub fn bound_seen(t: &[u32; 32], row: RowData) -> bool
     sets::has_site(t[u], s)
 }
 
-// How many sites a tuple's bytes have.
-fn sites_in(b: [u8; 6]) -> usize
-    ensures { λ r. ⌜ r ≡ length (rowAt b 0) ⌝ }
+// A site in front of the key of those behind it, if it is one of the first n.
+fn key_step(i: u8, n: u8, site: u8, rest: u32) -> u32
+    requires { ⌜ rest < 67108864 ⌝ }
+    ensures { λ r. ⌜ (r ≡ keyStep i n site rest) × (r < 256 + 32 * rest) ⌝ }
 {
-    let n = matching::wide(b[0]);
-    if n < 5 { n } else { 5 }
+    if i < n {
+        return site as u32 + 32 * rest;
+    }
+    1
 }
 
-// Whether tuple i of a table is the tuple b.
-fn same_row(rows: &[u8; 1536], i: usize, b: [u8; 6]) -> bool
-    requires { ⌜ i < 256 ⌝ }
-    requires { ⌜ length (now rows) ≡ 1536 ⌝ }
-    ensures { λ r. ⌜ r ≡ same (rowAt (now (rows .entry)) i) (rowAt b 0) ⌝ }
+// The sites of a tuple's bytes as one number.
+fn key_of(b: [u8; 6]) -> u32
+    ensures { λ r. ⌜ r ≡ keyOf (rowAt b 0) ⌝ }
 {
-    let n = sites_in(b);
-    if matching::row_len(rows, i) != n {
-        return false;
-    }
-    let at = TUPLE * i + 1;
-    let mut j: usize = 0;
-    while j < n {
-        if rows[at + j] != b[1 + j] {
-            return false;
-        }
-        j += 1;
-    }
-    true
+    let n = b[0];
+    let fifth = key_step(4, n, b[5], 1);
+    let fourth = key_step(3, n, b[4], fifth);
+    let third = key_step(2, n, b[3], fourth);
+    let second = key_step(1, n, b[2], third);
+    key_step(0, n, b[1], second)
 }
 
-// Whether tuple i is the one of the bytes b: most differ in their first site.
-fn row_is(rows: &[u8; 1536], i: usize, b: [u8; 6]) -> bool
-    requires { ⌜ i < 256 ⌝ }
-    requires { ⌜ length (now rows) ≡ 1536 ⌝ }
-    ensures { λ r. ⌜ r ≡ same (rowAt (now (rows .entry)) i) (rowAt b 0) ⌝ }
-{
-    if b[0] == 0 {
-        return same_row(rows, i, b);
-    }
-    if rows[TUPLE * i + 1] != b[1] {
-        return false;
-    }
-    same_row(rows, i, b)
-}
-
-// Whether one of the n tuples of a table is the tuple b.
-fn has_row(rows: &[u8; 1536], n: usize, b: [u8; 6]) -> bool
-    requires { ⌜ n ≤ 256 ⌝ }
-    requires { ⌜ length (now rows) ≡ 1536 ⌝ }
-    ensures { λ r. ⌜ r ≡ any (λ x. same x (rowAt b 0)) (rowsView n (now (rows .entry))) ⌝ }
-{
-    let mut i: usize = 0;
-    while i < n {
-        if row_is(rows, i, b) {
-            return true;
-        }
-        i += 1;
-    }
-    false
-}
-
-// 3: whether a T or an A row repeats one above: its tuple stands in the table.
-pub fn tuple_seen(rows: &[u8; 1536], n: usize, row: RowData) -> bool
+// The sites of a T or an A row as one number: rows have one number if they have the same sites.
+fn key(row: RowData) -> u32
     requires { ⌜ rowGood row ≡ true ⌝ }
     requires { ⌜ inLimits (rowData row) ≡ true ⌝ }
-    requires { ⌜ length (now rows) ≡ 1536 ⌝ }
+    requires { ⌜ tupleGroup (row .group) ≡ true ⌝ }
+    ensures { λ r. ⌜ r ≡ keyOf (rowData row .sites) ⌝ }
+{
+    key_of(entries::tuple_bytes(row))
+}
+
+// The key of a T or an A row, behind the k that stand there.
+pub fn put_key(keys: &mut [u32; 256], k: usize, row: RowData)
+    requires { ⌜ rowGood row ≡ true ⌝ }
+    requires { ⌜ inLimits (rowData row) ≡ true ⌝ }
+    requires { ⌜ tupleGroup (row .group) ≡ true ⌝ }
+    requires { ⌜ k < 256 ⌝ }
+    requires { ⌜ length (now keys) ≡ 256 ⌝ }
+    ensures { λ r. ⌜ length (now (keys .exit)) ≡ 256 ⌝ }
+    ensures { λ r. ⌜ ((above : List Row) → KeysAre (row .group) above (now (keys .entry)) k → KeysAre (row .group) (above ++ (rowData row ∷ [])) (now (keys .exit)) (k + 1)) ⌝ }
+{
+    keys[k] = key(row);
+}
+
+fn or_same(found: bool, a: u32, b: u32) -> bool
+    ensures { λ r. ⌜ r ≡ either found (eqb a b) ⌝ }
+{
+    if found {
+        return true;
+    }
+    a == b
+}
+
+// Whether k is one of the first n keys. All are tested: that is faster than to stop at the first.
+fn has_key(keys: &[u32; 256], n: usize, k: u32) -> bool
+    requires { ⌜ n ≤ 256 ⌝ }
+    requires { ⌜ length (now keys) ≡ 256 ⌝ }
+    ensures { λ r. ⌜ r ≡ any (λ x. eqb x k) (take n (now (keys .entry))) ⌝ }
+{
+    let mut found = false;
+    let mut i: usize = 0;
+    while i < n {
+        found = or_same(found, keys[i], k);
+        i += 1;
+    }
+    found
+}
+
+// 3: whether a T or an A row repeats one above: its key stands among theirs.
+pub fn tuple_seen(keys: &[u32; 256], n: usize, row: RowData) -> bool
+    requires { ⌜ rowGood row ≡ true ⌝ }
+    requires { ⌜ inLimits (rowData row) ≡ true ⌝ }
+    requires { ⌜ length (now keys) ≡ 256 ⌝ }
     requires { ⌜ tupleGroup (row .group) ≡ true ⌝ }
     requires { ⌜ n ≤ 256 ⌝ }
-    ensures { λ r. ⌜ ((above : List Row) → All Kept above → rowsView n (now (rows .entry)) ≡ map (λ x. x .sites) (ofGroup (row .group) above) → r ≡ repeated above (rowData row)) ⌝ }
+    ensures { λ r. ⌜ ((above : List Row) → All Kept above → KeysAre (row .group) above (now (keys .entry)) n → r ≡ repeated above (rowData row)) ⌝ }
 {
-    has_row(rows, n, entries::tuple_bytes(row))
+    has_key(keys, n, key(row))
 }
 
 // Whether root i of a table is line q at site s.

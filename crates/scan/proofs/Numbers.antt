@@ -12,12 +12,13 @@ use borrow.Author.Tests.{eq-eqb, ne-eqb, lt-ltb}
 use Rattle.sets.specs.Lists.{_&_, either}
 use Rattle.klaim.specs.Process.{template, clash}
 use Rattle.sets.proofs.Lists.{not-no, not-yes}
-use Rattle.klaim.specs.Rows.{Row, rowLine}
+use Rattle.klaim.specs.Rows.{Row, rowLine, groupQ}
 use Rattle.klaim.specs.Reader.{Text, inLimits, ofGroup, full, over, headed, own, inOrder, repeated, misplaced, siteCount, absent, Judged, bad, good, judge}
 use Rattle.forms.specs.declared.RowData.{RowData}
 use Rattle.forms.specs.Forms.{rowData, rowView, rowGood, plainRow, tupleGroup}
 use Rattle.forms.proofs.Views.{view-none, view-some}
 use Rattle.judge.proofs.Limits.{Good, q-row, plain-row, good as good-row}
+use Rattle.binders.proofs.Binders.{clash-none}
 use Rattle.scan.specs.declared.Tally.{Tally}
 use Rattle.scan.specs.Tallies.{more, countedOf}
 use Rattle.scan.specs.Numbers.{earlyOf, lateOf, numberOf, judgedBy}
@@ -114,6 +115,14 @@ module _ (n : ℕ) (r : Row) where
   pub late-none : true ≡ not (absent n r) → false ≡ clash (template (r .process)) → 0 ≡ lateOf n r
   unfolding lateOf
   late-none h c = rw (not-yes (absent n r) (sym h), sym c)
+
+-- a row that is no Q row has no template
+pub late-plain : (n : ℕ) (r : RowData) → rowGood r ≡ true → 0 < r .group → (r .group ≡ groupQ → ⊥) → true ≡ not (absent n (rowData r)) → 0 ≡ lateOf n (rowData r)
+late-plain n r G h away a = late-none n (rowData r) a (sym (go (good-row r G h)))
+  where
+    go : Good r → clash (template (rowData r .process)) ≡ false
+    go (q-row e k l P o) = absurd (away e)
+    go (plain-row e k P) = clash-none (plain-row e k P) (λ z. omega arith) (λ z. omega arith)
 
 -- a row that is in none of the counts
 pub counted-rest : (r : RowData) (t : Tally) → (r .group ≡ 1 → ⊥) → (r .group ≡ 4 → ⊥) → (r .group ≡ 8 → ⊥) → (r .group ≡ 5 → ⊥) → (r .group ≡ 6 → ⊥) → record { size = t .size; tuples = t .tuples; roots = t .roots; lines = t .lines; last = r .group; turn = t .turn; rows = t .rows + 1; number = t .number } ≡ countedOf r t

@@ -6,13 +6,14 @@ ghost use Prim.Native.Nat.{_+_, _<_};
 ghost use lib.Dec.{eqb};
 ghost use lib.ListN.{length};
 ghost use Rattle.sets.specs.Lists.{_&_};
-ghost use Rattle.klaim.specs.Rows.{newline};
+ghost use Rattle.klaim.specs.Rows.{newline, groupQ};
 ghost use Rattle.text.specs.Pieces.{endOf};
 ghost use Rattle.forms.specs.Forms.{rowView, rowData, rowGood};
 ghost use Rattle.scan.specs.Progress.{rowsLeft};
 ghost use Rattle.scan.specs.Numbers.{earlyOf, lateOf};
 ghost use Rattle.scan.specs.Tallies.{countedOf, startOf};
 use forms::RowData;
+use text::EDGES;
 use text::GROUP_A;
 use text::GROUP_L;
 use text::GROUP_N;
@@ -48,17 +49,31 @@ pub fn start(n: u16) -> Tally
     }
 }
 
-// The row that begins at `at` and ends at `end`. Bytes behind the last newline are no row.
-pub fn row_at(s: &[u8], at: usize, end: usize) -> RowData
+// A row, and where it ends.
+pub struct NextRow {
+    pub row: RowData,
+    pub end: usize,
+}
+
+// The row that begins at `at`. Bytes behind the last newline are no row.
+pub fn row_at(s: &[u8], at: usize) -> NextRow
     requires { ⌜ at < length (now s) ⌝ }
-    requires { ⌜ end ≡ endOf newline (now s) at ⌝ }
-    ensures { λ r. ⌜ rowsLeft (now (s .entry)) at ≡ rowView r ∷ rowsLeft (now (s .entry)) (end + 1) ⌝ }
-    ensures { λ r. ⌜ rowGood r ≡ true ⌝ }
+    ensures { λ r. ⌜ r .end ≡ endOf newline (now (s .entry)) at ⌝ }
+    ensures { λ r. ⌜ rowsLeft (now (s .entry)) at ≡ rowView (r .row) ∷ rowsLeft (now (s .entry)) (r .end + 1) ⌝ }
+    ensures { λ r. ⌜ rowGood (r .row) ≡ true ⌝ }
 {
+    let mut edges = [0usize; EDGES];
+    let cut = text::cut(s, at, &mut edges);
+    let count = cut.count;
+    let end = cut.end;
     if end < s.len() {
-        return forms::row_of(&s[at..end]);
+        let row = forms::row_of(&s[at..end], &edges, count);
+        return NextRow { row, end };
     }
-    forms::NO_ROW
+    NextRow {
+        row: forms::NO_ROW,
+        end,
+    }
 }
 
 // Form, limits and place: 1, 2, 3 or 0.
@@ -92,6 +107,19 @@ pub fn late(row: RowData, n: u16) -> u8
         if binders::clashes(row) {
             return 7;
         }
+        return 0;
+    }
+    4
+}
+
+// Sites of a row that is no Q row, which has no template: 4 or 0.
+pub fn sited(row: RowData, n: u16) -> u8
+    requires { ⌜ rowGood row ≡ true ⌝ }
+    requires { ⌜ 0 < row .group ⌝ }
+    requires { ⌜ (row .group ≡ groupQ → ⊥) ⌝ }
+    ensures { λ r. ⌜ r ≡ lateOf n (rowData row) ⌝ }
+{
+    if judge::low_sites(row, n) {
         return 0;
     }
     4

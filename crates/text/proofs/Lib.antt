@@ -1,5 +1,6 @@
 pub mod Tests
 pub mod Pieces
+pub mod Slices
 pub mod Rows
 pub mod Fields
 pub mod Sums

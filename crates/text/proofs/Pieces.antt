@@ -27,7 +27,7 @@ unfolding split
 some-piece b [] = omega arith
 some-piece b (x ∷ s) = some-after (eqb x b) x (split b s)
 
-grown : (x : ℕ) (ps : List (List ℕ)) → 0 < length ps → length (at (piecesAfter false x ps) 0) ≡ suc (length (at ps 0))
+pub grown : (x : ℕ) (ps : List (List ℕ)) → 0 < length ps → length (at (piecesAfter false x ps) 0) ≡ suc (length (at ps 0))
 unfolding piecesAfter
 grown x [] h = absurd (not-suc-le-zero h)
 grown x (p ∷ ps) h = refl

@@ -1,20 +1,20 @@
 -- Laws of the rights of a field.
 -- Assumes nothing.
-use mathlib.Core.Path.{_≡_, refl, ap, _∙_}
-use mathlib.Core.Bool.{Bool, true, false, not}
+use mathlib.Core.Path.{_≡_, refl, sym, ap, subst, _∙_}
+use mathlib.Core.Bool.{Bool, true, false, not, cond}
 use mathlib.Core.List.{List, [], _∷_}
 use mathlib.Core.Option.{Option, none, some}
 use Prim.Native.Nat.{ℕ, suc, _+_, _*_, _≤_, _<_}
 use native.Mathlib.Numerals.{add-one}
 use native.Mathlib.Omega.{arith}
-use lib.Dec.{leb, ltb}
+use lib.Dec.{eqb, leb, ltb}
 use lib.ListN.{length, getD, drop, drop-of-length-le}
 use lib.Seq.{drop-cons}
-use borrow.Author.Tests.{lt-ltb, le-ltb, leb-true}
+use borrow.Author.Tests.{lt-ltb, le-ltb, leb-true, ltb-true, ltb-false, eqb-true}
 use Rattle.sets.specs.Lists.{_&_, either, imp, all, any, among, empty}
 use Rattle.sets.proofs.Lists.{all-at, among-in, imp-e}
-use Rattle.klaim.specs.Rows.{given, _>>=_, rightOf, rightsAfter, rightsField}
-use Rattle.text.specs.Fields.{rightsOf, bits}
+use Rattle.klaim.specs.Rows.{given, otherwise, _>>=_, rightOf, rightsAfter, rightsField}
+use Rattle.text.specs.Fields.{rightsOf, hitAt, bits}
 
 module _ {A B : Type 0} where
   bind-none : (o : Option A) (g : A → Option B) → ((x : A) → g x ≡ none) → (o >>= g) ≡ none
@@ -28,24 +28,12 @@ module _ {A B : Type 0} where
   bind-same (some x) g k h = h x
 
 -- each right is at least twice any that stands before it
-bit-low : (r : ℕ) → among bits r ≡ true → r ≤ 16
-unfolding among all _&_
-bit-low r t = leb-true _ _ (all-at (λ x. leb x 16) (among-in bits r t) refl)
-
 bit-double : (a b : ℕ) → among bits a ≡ true → among bits b ≡ true → a < b → 2 * a ≤ b
 unfolding among all _&_ imp
 bit-double a b s t h = leb-true _ _ (imp-e _ _ (all-at (λ y. imp (ltb a y) (leb (2 * a) y)) (among-in bits b t) (all-at (λ x. all (λ y. imp (ltb x y) (leb (2 * x) y)) bits) (among-in bits a s) refl)) (lt-ltb a b h))
 
 -- one letter, behind the right `last`
 module _ (f : List ℕ) (i last r : ℕ) (h : i < length f) (q : rightsOf r ≡ rightOf (getD f i 0)) where
-  rights-stop : r ≤ last → rightsAfter last (drop i f) ≡ none
-  unfolding rightsAfter rightsOf given _>>=_
-  rights-stop m = rw (drop-cons f i 0 h, ← q) (go (ltb 0 r))
-    where
-      go : (t : Bool) → (given t (some r) >>= λ r. rightsAfter r (drop (suc i) f) >>= λ rs. given (ltb last r) (some (r + rs))) ≡ none
-      go true = bind-none (rightsAfter r (drop (suc i) f)) (λ rs. given (ltb last r) (some (r + rs))) (λ rs. rw (le-ltb last r m))
-      go false = refl
-
   rights-next : last < r → rightsAfter last (drop i f) ≡ (rightsAfter r (drop (i + 1) f) >>= λ rs. some (r + rs))
   unfolding rightsAfter rightsOf given _>>=_
   rights-next m = rw (add-one, drop-cons f i 0 h, ← q, lt-ltb 0 r (omega arith)) (bind-same (rightsAfter r (drop (suc i) f)) (λ rs. given (ltb last r) (some (r + rs))) (λ rs. some (r + rs)) (λ rs. rw (lt-ltb last r m)))
@@ -75,18 +63,7 @@ summing-none f = record { within = omega arith; many = omega arith; size = omega
 
 -- the next letter's right is r
 module _ {f : List ℕ} {sum last i : ℕ} (S : Summing f sum last i) (r : ℕ) (h : i < length f) (q : rightsOf r ≡ rightOf (getD f i 0)) where
-  pub summing-stop : r ≤ last → rightsField f ≡ none
-  unfolding rightsField _>>=_ empty given
-  summing-stop m = rw (S .value, rights-stop f i last r h q m) (go (not (empty f)))
-    where
-      go : (t : Bool) → given {A = ℕ} t none ≡ none
-      go true = refl
-      go false = refl
-
-  pub summing-size : among bits r ≡ true → last < r → sum + r ≤ 32
-  summing-size t m = omega (arith, S .size, bit-low r t, bit-double last r (S .bit) t m)
-
-  pub summing-next : among bits r ≡ true → last < r → Summing f (sum + r) r (i + 1)
+  summing-next : among bits r ≡ true → last < r → Summing f (sum + r) r (i + 1)
   summing-next t m = record {
     within = omega arith;
     many = omega (arith, S .many);
@@ -94,6 +71,130 @@ module _ {f : List ℕ} {sum last i : ℕ} (S : Summing f sum last i) (r : ℕ) 
     bit = t;
     value = S .value ∙ rw (rights-next f i last r h q m) (add-all sum r (rightsAfter r (drop (i + 1) f)));
   }
+
+  -- the letter of r stands there
+  next-hit : among bits r ≡ true → last < r → (k : ℕ) → 1 ≡ k → Summing f (sum + r * k) r (i + k)
+  next-hit t m k e = subst (λ (k : ℕ). Summing f (sum + r * k) r (i + k)) e (subst (λ (n : ℕ). Summing f (sum + n) r (i + 1)) (omega arith) (summing-next t m))
+
+-- a byte that is no letter of the right r, which follows `last`, is read alike behind both
+abbrev Apart : ℕ → ℕ → ℕ → Type 0
+Apart last r letter = (b : ℕ) (g : List ℕ) → eqb b letter ≡ false → rightsAfter last (b ∷ g) ≡ rightsAfter r (b ∷ g)
+
+-- no letter of r there
+next-miss : {f : List ℕ} {sum last i : ℕ} → Summing f sum last i → (r : ℕ) → among bits r ≡ true → last < r → rightsAfter last (drop i f) ≡ rightsAfter r (drop i f) → (k : ℕ) → 0 ≡ k → Summing f (sum + r * k) r (i + k)
+next-miss {f} {sum} {last} {i} S r t m e k z =
+    subst (λ (k : ℕ). Summing f (sum + r * k) r (i + k)) z
+    (subst (λ (n : ℕ). Summing f n r (i + 0)) (omega arith)
+    (subst (λ (n : ℕ). Summing f sum r n) (omega arith)
+    (record {
+      within = S .within;
+      many = S .many;
+      size = omega (arith, S .size);
+      bit = t;
+      value = S .value ∙ ap (λ (o : Option ℕ). o >>= λ rs. some (sum + rs)) e;
+    })))
+
+-- the letter of the right r looked for behind `last`
+pub summing-step : {f : List ℕ} {sum last i : ℕ} → Summing f sum last i → (r letter : ℕ) → among bits r ≡ true → last < r → rightsOf r ≡ rightOf letter → Apart last r letter → (k : ℕ) → k ≡ hitAt letter f i → Summing f (sum + r * k) r (i + k)
+unfolding hitAt _&_ rightsAfter
+summing-step {f} {sum} {last} {i} S r letter t m q skip k h = go (ltb i (length f)) refl (eqb (getD f i 0) letter) refl h
+  where
+    go : (b : Bool) → ltb i (length f) ≡ b → (c : Bool) → eqb (getD f i 0) letter ≡ c → k ≡ cond (b & c) 1 0 → Summing f (sum + r * k) r (i + k)
+    go false l c e z = next-miss S r t m (rw (drop-of-length-le f (ltb-false i (length f) l))) k (sym z)
+    go true l false e z = next-miss S r t m (rw (drop-cons f i 0 (ltb-true i (length f) l)) (skip (getD f i 0) (drop (suc i) f) e)) k (sym z)
+    go true l true e z = next-hit S r (ltb-true i (length f) l) (q ∙ ap rightOf (sym (eqb-true (getD f i 0) letter e))) t m k (sym z)
+
+-- the right of a byte, by the letter that it is
+abbrev byLetter : Bool → Bool → Bool → Bool → Bool → Option ℕ
+byLetter o i r e a =
+    otherwise (given o (some 1))
+    (otherwise (given i (some 2))
+    (otherwise (given r (some 4))
+    (otherwise (given e (some 8))
+    (given a (some 16)))))
+
+-- the rights of a byte's letter and those behind it, where the right behind `last` is due
+abbrev after : ℕ → List ℕ → Option ℕ → Option ℕ
+after last g o = o >>= λ x. rightsAfter x g >>= λ rs. given (ltb last x) (some (x + rs))
+
+pub apart-o : Apart 0 1 111
+unfolding rightsAfter rightOf given otherwise _>>=_
+apart-o b g n = rw n (go (eqb b 105) (eqb b 114) (eqb b 101) (eqb b 97))
+  where
+    go : (i r e a : Bool) → after 0 g (byLetter false i r e a) ≡ after 1 g (byLetter false i r e a)
+    go true r e a = refl
+    go false true e a = refl
+    go false false true a = refl
+    go false false false true = refl
+    go false false false false = refl
+
+pub apart-i : Apart 1 2 105
+unfolding rightsAfter rightOf given otherwise _>>=_
+apart-i b g n = rw n (go (eqb b 111) (eqb b 114) (eqb b 101) (eqb b 97))
+  where
+    go : (o r e a : Bool) → after 1 g (byLetter o false r e a) ≡ after 2 g (byLetter o false r e a)
+    go true r e a = refl
+    go false true e a = refl
+    go false false true a = refl
+    go false false false true = refl
+    go false false false false = refl
+
+pub apart-r : Apart 2 4 114
+unfolding rightsAfter rightOf given otherwise _>>=_
+apart-r b g n = rw n (go (eqb b 111) (eqb b 105) (eqb b 101) (eqb b 97))
+  where
+    go : (o i e a : Bool) → after 2 g (byLetter o i false e a) ≡ after 4 g (byLetter o i false e a)
+    go true i e a = refl
+    go false true e a = refl
+    go false false true a = refl
+    go false false false true = refl
+    go false false false false = refl
+
+pub apart-e : Apart 4 8 101
+unfolding rightsAfter rightOf given otherwise _>>=_
+apart-e b g n = rw n (go (eqb b 111) (eqb b 105) (eqb b 114) (eqb b 97))
+  where
+    go : (o i r a : Bool) → after 4 g (byLetter o i r false a) ≡ after 8 g (byLetter o i r false a)
+    go true i r a = refl
+    go false true r a = refl
+    go false false true a = refl
+    go false false false true = refl
+    go false false false false = refl
+
+pub apart-a : Apart 8 16 97
+unfolding rightsAfter rightOf given otherwise _>>=_
+apart-a b g n = rw n (go (eqb b 111) (eqb b 105) (eqb b 114) (eqb b 101))
+  where
+    go : (o i r e : Bool) → after 8 g (byLetter o i r e false) ≡ after 16 g (byLetter o i r e false)
+    go true i r e = refl
+    go false true r e = refl
+    go false false true e = refl
+    go false false false true = refl
+    go false false false false = refl
+
+-- behind the last right no letter stands
+behind-all : (b : ℕ) (g : List ℕ) → rightsAfter 16 (b ∷ g) ≡ none
+unfolding rightsAfter rightOf given otherwise _>>=_
+behind-all b g = go (eqb b 111) (eqb b 105) (eqb b 114) (eqb b 101) (eqb b 97)
+  where
+    no : (x : ℕ) → _≡_ {A = Option ℕ} (rightsAfter x g >>= λ rs. none) none
+    no x = bind-none (rightsAfter x g) (λ rs. none) (λ rs. refl)
+
+    go : (o i r e a : Bool) → after 16 g (byLetter o i r e a) ≡ none
+    go true i r e a = no 1
+    go false true r e a = no 2
+    go false false true e a = no 4
+    go false false false true a = no 8
+    go false false false false true = no 16
+    go false false false false false = refl
+
+pub summing-more : {f : List ℕ} {sum i : ℕ} → Summing f sum 16 i → (i ≡ length f → ⊥) → rightsField f ≡ none
+unfolding rightsField _>>=_ empty given
+summing-more {f} {sum} {i} S h = rw (S .value, drop-cons f i 0 (omega (arith, S .within, h)), behind-all (getD f i 0) (drop (suc i) f)) (go (not (empty f)))
+  where
+    go : (t : Bool) → given {A = ℕ} t none ≡ none
+    go true = refl
+    go false = refl
 
 pub rights-no : rightsOf 0 ≡ none
 unfolding rightsOf given
@@ -111,3 +212,16 @@ summing-done [] {sum} S h =
     let y : sum ≡ 0 = omega arith in
     rw y
 summing-done (b ∷ f) {sum} S h = rw (lt-ltb 0 sum (omega (arith, S .many)), all-read S h) (ap some (omega arith))
+
+moved : {f : List ℕ} {last sum n i j : ℕ} → Summing f sum last i → sum ≡ n → i ≡ j → Summing f n last j
+moved {f} {last} {sum} {n} {i} {j} S p q = subst (λ (k : ℕ). Summing f n last k) q (subst (λ (k : ℕ). Summing f k last i) p S)
+
+-- each letter in turn
+pub all-hits : (f : List ℕ) (o i r e a : ℕ) → o ≡ hitAt 111 f 0 → i ≡ hitAt 105 f o → r ≡ hitAt 114 f (o + i) → e ≡ hitAt 101 f (o + i + r) → a ≡ hitAt 97 f (o + i + r + e) → Summing f (o + 2 * i + 4 * r + 8 * e + 16 * a) 16 (o + i + r + e + a)
+unfolding among any either rightsOf rightOf given otherwise
+all-hits f o i r e a p1 p2 p3 p4 p5 =
+    let S1 : Summing f o 1 o = moved (summing-step (summing-none f) 1 111 refl (omega arith) refl apart-o o p1) (omega arith) (omega arith) in
+    let S2 : Summing f (o + 2 * i) 2 (o + i) = summing-step S1 2 105 refl (omega arith) refl apart-i i p2 in
+    let S3 : Summing f (o + 2 * i + 4 * r) 4 (o + i + r) = summing-step S2 4 114 refl (omega arith) refl apart-r r p3 in
+    let S4 : Summing f (o + 2 * i + 4 * r + 8 * e) 8 (o + i + r + e) = summing-step S3 8 101 refl (omega arith) refl apart-e e p4 in
+    summing-step S4 16 97 refl (omega arith) refl apart-a a p5

@@ -37,6 +37,10 @@ digitsField f = given (all digit f) (some (decimal 0 f))
 unfoldable pub rightsOf : ℕ → Option ℕ
 rightsOf r = given (ltb 0 r) (some r)
 
+-- 1 if byte i of a field is the letter, else 0
+unfoldable pub hitAt : ℕ → List ℕ → ℕ → ℕ
+hitAt letter f i = cond (ltb i (length f) & eqb (getD f i 0) letter) 1 0
+
 -- no right, and each right
 abbrev pub bits : List ℕ
 bits = 0 ∷ everyBit

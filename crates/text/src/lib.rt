@@ -1,13 +1,12 @@
 //! Bytes cut into rows and fields, and what a field says.
 ghost use mathlib.Core.Path.{_≡_};
-ghost use mathlib.Core.Bool.{true};
 ghost use mathlib.Core.List.{[], _∷_};
-ghost use Prim.Native.Nat.{_+_, _<_, _≤_};
-ghost use lib.ListN.{length, set};
-ghost use Rattle.sets.specs.Lists.{same as sameBytes, among};
-ghost use Rattle.klaim.specs.Rows.{split, comma, newline, at, number as numberField, lettered as letteredField, siteField, varField, isSelf, bindField, rightOf, rightsField};
-ghost use Rattle.text.specs.Pieces.{endOf, edgeLimit, Cut};
-ghost use Rattle.text.specs.Fields.{numberOf, shapeOf, digitsField, rightsOf, bits, binderOf, pickName, Named, letterOf, wordOf};
+ghost use Prim.Native.Nat.{_+_, _-_, _<_, _≤_};
+ghost use lib.ListN.{length, set, take, drop};
+ghost use Rattle.sets.specs.Lists.{same as sameBytes};
+ghost use Rattle.klaim.specs.Rows.{split, comma, newline, at, number as numberField, lettered as letteredField, siteField, varField, isSelf, bindField, rightsField};
+ghost use Rattle.text.specs.Pieces.{endOf, edgeLimit, Cut, Mark, commaAt};
+ghost use Rattle.text.specs.Fields.{numberOf, shapeOf, digitsField, rightsOf, hitAt, binderOf, pickName, Named, letterOf, wordOf};
 
 const NEWLINE: u8 = 10;
 
@@ -61,6 +60,58 @@ pub fn cuts(row: &[u8], edges: &mut [usize; EDGES]) -> usize
         keep(edges, n, from);
     }
     n
+}
+
+// Where the field that begins at `from` ends: at the next comma or newline, or at the end of the bytes.
+fn field_end(s: &[u8], from: usize) -> usize
+    ensures { λ r. ⌜ Mark (now (s .entry)) from r ⌝ }
+{
+    let mut i = from;
+    while i < s.len() {
+        if s[i] == COMMA {
+            return i;
+        }
+        if s[i] == NEWLINE {
+            return i;
+        }
+        i += 1;
+    }
+    i
+}
+
+// Whether byte i is a comma.
+fn goes_on(s: &[u8], i: usize) -> bool
+    ensures { λ r. ⌜ r ≡ commaAt (now (s .entry)) i ⌝ }
+{
+    if i < s.len() {
+        return s[i] == COMMA;
+    }
+    false
+}
+
+// A row that was cut: how many fields it has, and where it ends.
+pub struct CutRow {
+    pub count: usize,
+    pub end: usize,
+}
+
+// The row that begins at `at`, cut into its fields: the edges of the first 9, counted from there.
+pub fn cut(s: &[u8], at: usize, edges: &mut [usize; EDGES]) -> CutRow
+    requires { ⌜ length (now edges) ≡ edgeLimit ⌝ }
+    requires { ⌜ at ≤ length (now s) ⌝ }
+    ensures { λ r. ⌜ r .end ≡ endOf newline (now (s .entry)) at ⌝ }
+    ensures { λ r. ⌜ Cut (take (r .end - at) (drop at (now (s .entry)))) (now (edges .exit)) (r .count) ⌝ }
+{
+    let mut n = 1;
+    let mut end = field_end(s, at);
+    keep(edges, 0, 0);
+    keep(edges, 1, end + 1 - at);
+    while goes_on(s, end) {
+        end = field_end(s, end + 1);
+        n += 1;
+        keep(edges, n, end + 1 - at);
+    }
+    CutRow { count: n, end }
 }
 
 // Field k of a row that was cut, empty where the row has none.
@@ -187,37 +238,31 @@ pub fn binder(f: &[u8]) -> u16
     NO_NUMBER
 }
 
-// The right of a letter, 0 for any other byte.
-fn right(b: u8) -> u8
-    ensures { λ r. ⌜ (rightsOf r ≡ rightOf b) × (among bits r ≡ true) ⌝ }
+// 1 if byte i of a field is the letter, else 0.
+fn hit(f: &[u8], i: usize, letter: u8) -> usize
+    ensures { λ r. ⌜ (r ≡ hitAt letter (now (f .entry)) i) × (r ≤ 1) ⌝ }
 {
-    match b {
-        b'o' => 1,
-        b'i' => 2,
-        b'r' => 4,
-        b'e' => 8,
-        b'a' => 16,
-        _ => 0,
+    if i < f.len() {
+        if f[i] == letter {
+            return 1;
+        }
     }
+    0
 }
 
-// The rights of a field, 0 where it is not of their form.
+// The rights of a field, 0 where it is not of their form: each letter stands behind those that are there of the letters before it.
 pub fn rights(f: &[u8]) -> u8
     ensures { λ r. ⌜ rightsOf r ≡ rightsField (now (f .entry)) ⌝ }
 {
-    let mut sum: u8 = 0;
-    let mut last: u8 = 0;
-    let mut i = 0;
-    while i < f.len() {
-        let next = right(f[i]);
-        if next <= last {
-            return 0;
-        }
-        sum += next;
-        last = next;
-        i += 1;
+    let o = hit(f, 0, b'o');
+    let i = hit(f, o, b'i');
+    let r = hit(f, o + i, b'r');
+    let e = hit(f, o + i + r, b'e');
+    let a = hit(f, o + i + r + e, b'a');
+    if o + i + r + e + a != f.len() {
+        return 0;
     }
-    sum
+    (o + 2 * i + 4 * r + 8 * e + 16 * a) as u8
 }
 
 // What a target or a field names.

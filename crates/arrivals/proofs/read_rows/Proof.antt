@@ -15,7 +15,6 @@ use Rattle.scan.proofs.counted.Reads as counted-reads
 use Rattle.scan.proofs.row_at.Reads as row-at-reads
 use Rattle.scan.proofs.turned_away.Reads as turned-away-reads
 use Rattle.stores.proofs.put_process.Reads as put-process-reads
-use Rattle.text.proofs.row_end.Reads as row-end-reads
 
 abbrev Inv-loop : tie.InvT-loop
 Inv-loop n d s lines₀ tally₀ at₀ lines tally at = Reading n d s lines tally at
@@ -36,19 +35,16 @@ loop-holds : tie.Need-loop-holds Inv-loop μ-loop
 loop-holds c = reading-start _ _ _ _ (c .start .ensures)
 
 -- src/lib.rt:89:13
-row-end-requires : tie.Need-row-end-requires Inv-loop μ-loop
-row-end-requires c κs = search needs
-
 -- src/lib.rt:90:13
 row-at-requires : tie.Need-row-at-requires Inv-loop μ-loop
-row-at-requires c κs = (c .before .loop-test .taken, c .row-end .ensures)
+row-at-requires c κs = c .loop-test .taken
 
 -- src/lib.rt:91:13
 row-number-requires : tie.Need-row-number-requires Inv-loop μ-loop
 row-number-requires c κs =
     let R = c .before .before .before .loop .inv in
     let l = c .before .before .loop-test .taken in
-    (c .row-at .ensures .1, (c .before .before .before .before .before .before .pre, R .few (R .running l) .linesFew))
+    (c .before .row-at .ensures .1 .1, (c .before .before .before .before .before .before .pre, R .few (R .running l) .linesFew))
 
 -- src/lib.rt:93:13
 put-process-requires : tie.Need-put-process-requires Inv-loop μ-loop
@@ -56,7 +52,7 @@ put-process-requires c κs =
     let R = c .before .before .before .before .before .before .loop .inv in
     let l = c .before .before .before .before .before .loop-test .taken in
     let P = c .before .before .row-number .ensures .1 (c .before .if1 .taken) in
-    (c .before .before .before .row-at .ensures .1, (P .low, (of-group _ _ _ P, (room _ _ _ P, R .long))))
+    (c .before .before .before .before .row-at .ensures .1 .1, (P .low, (of-group _ _ _ P, (room _ _ _ P, R .long))))
 
 -- src/lib.rt:94:13
 counted-requires : tie.Need-counted-requires Inv-loop μ-loop
@@ -71,7 +67,7 @@ add-at : tie.Need-add-at Inv-loop μ-loop
 add-at c =
     let R = c .before .before .before .before .before .before .before .before .loop .inv in
     let l = c .before .before .before .before .before .before .before .loop-test .taken in
-    let e = row-within R l _ (c .before .before .before .before .before .before .row-end .ensures) in
+    let e = row-within R l _ (c .before .before .before .before .before .before .row-at .ensures .0) in
     omega (arith, e, long (c .before .before .before .before .before .before .before .before .before .before .before))
 
 -- src/lib.rt:88:5
@@ -79,7 +75,7 @@ loop-less : tie.Need-loop-less Inv-loop μ-loop
 loop-less c =
     let R = c .before .before .before .before .before .before .before .before .loop .inv in
     let l = c .before .before .before .before .before .before .before .loop-test .taken in
-    omega (arith, l, c .before .before .before .before .before .before .row-end .ensures)
+    omega (arith, l, c .before .before .before .before .before .before .row-at .ensures .0)
 
 -- src/lib.rt:88:5
 loop-again : tie.Need-loop-again Inv-loop μ-loop
@@ -87,7 +83,7 @@ loop-again c =
     let R = c .before .before .before .before .before .before .before .before .loop .inv in
     let l = c .before .before .before .before .before .before .before .loop-test .taken in
     let P = c .before .before .before .before .row-number .ensures .1 (c .before .before .before .if1 .taken) in
-    reading-more _ _ _ _ _ _ _ _ _ R l (c .before .before .before .before .before .row-at .ensures .0) (c .before .before .before .before .row-number .ensures .0) (c .before .before .before .before .before .row-at .ensures .1) (c .before .before .before .if1 .taken) (omega (arith, c .before .before .before .before .before .before .row-end .ensures)) P (c .before .put-process .ensures .0) (c .before .put-process .ensures .1) _ (c .counted .ensures)
+    reading-more _ _ _ _ _ _ _ _ _ R l (c .before .before .before .before .before .before .row-at .ensures .1 .0) (c .before .before .before .before .row-number .ensures .0) (c .before .before .before .before .before .before .row-at .ensures .1 .1) (c .before .before .before .if1 .taken) (omega (arith, c .before .before .before .before .before .before .row-at .ensures .0)) P (c .before .put-process .ensures .0) (c .before .put-process .ensures .1) _ (c .counted .ensures)
 
 -- src/lib.rt:97:13
 turned-away-requires : tie.Need-turned-away-requires Inv-loop μ-loop
@@ -108,7 +104,7 @@ loop-again-2 : tie.Need-loop-again-2 Inv-loop μ-loop
 loop-again-2 c =
     let R = c .before .before .before .before .before .before .loop .inv in
     let l = c .before .before .before .before .before .loop-test .taken in
-    reading-bad _ _ _ _ _ _ (c .before .before .before .before .row-end .result + 1) _ _ R l (c .before .before .before .row-at .ensures .0) (c .before .before .row-number .ensures .0) (c .before .if1 .left) _ (c .turned-away .ensures .0) (c .turned-away .ensures .1 .0) _ refl
+    reading-bad _ _ _ _ _ _ (c .before .before .before .before .row-at .result .end + 1) _ _ R l (c .before .before .before .before .row-at .ensures .1 .0) (c .before .before .row-number .ensures .0) (c .before .if1 .left) _ (c .turned-away .ensures .0) (c .turned-away .ensures .1 .0) _ refl
 
 -- src/lib.rt:81:1
 returns : tie.Need-returns Inv-loop μ-loop
@@ -122,7 +118,6 @@ read-rows-spec =
     μ-loop
     start-requires
     loop-holds
-    row-end-requires
     row-at-requires
     row-number-requires
     put-process-requires

@@ -26,15 +26,15 @@ pair-seen-requires c κs = (c .before .pre .0, (c .before .pre .1 .0 .low, (c .b
 
 -- src/lib.rt:51:1
 returns : tie.Need-returns
-returns c = λ n above Y T. c .bound-seen .ensures above (Y .kept) (T .bindsIs)
+returns c = λ n above stand Y T K. c .bound-seen .ensures above (Y .kept) (T .bindsIs)
 
 -- src/lib.rt:51:1
 returns-2 : tie.Need-returns-2
-returns-2 c = λ n above Y T. c .tuple-seen .ensures above (Y .kept) (rw (c .before .match .keys2) (T .standIs))
+returns-2 c = λ n above stand Y T K. c .tuple-seen .ensures above (Y .kept) (rw (c .before .match .keys2) K)
 
 -- src/lib.rt:51:1
 returns-3 : tie.Need-returns-3
-returns-3 c = let s = c .before .before in λ n above Y T. c .pair-seen .ensures above (Y .kept) (rw (last-group (s .args .row) (s .args .tally) (s .pre .0) (s .pre .1 .0) (c .before .match .rest .0 .1) (c .before .match .rest .1)) (T .holdIs))
+returns-3 c = let s = c .before .before in λ n above stand Y T K. c .pair-seen .ensures above (Y .kept) (rw (last-group (s .args .row) (s .args .tally) (s .pre .0) (s .pre .1 .0) (c .before .match .rest .0 .1) (c .before .match .rest .1)) (T .holdIs))
 
 pub is-seen-spec : {M : Type 1} → statement M
 is-seen-spec =

@@ -14,13 +14,12 @@ use Rattle.estimates.proofs.store.Reads as store-reads
 use Rattle.scan.proofs.counted.Reads as counted-reads
 use Rattle.scan.proofs.row_at.Reads as row-at-reads
 use Rattle.scan.proofs.turned_away.Reads as turned-away-reads
-use Rattle.text.proofs.row_end.Reads as row-end-reads
 
 abbrev Inv-loop : tie.InvT-loop
-Inv-loop n s binds₀ stand₀ hold₀ tally₀ at₀ binds stand hold tally at = Reading n s binds stand hold tally at
+Inv-loop n s binds₀ stand₀ keys₀ hold₀ tally₀ at₀ binds stand keys hold tally at = Reading n s binds stand hold keys tally at
 
 abbrev μ-loop : tie.MeasureT-loop
-μ-loop n s binds₀ stand₀ hold₀ tally₀ at₀ binds stand hold tally at = length s - at
+μ-loop n s binds₀ stand₀ keys₀ hold₀ tally₀ at₀ binds stand keys hold tally at = length s - at
 
 -- the text's length
 long : (c : tie.Start Inv-loop μ-loop) → length (c .args .s .now) < 18446744073709551615
@@ -35,56 +34,58 @@ loop-holds : tie.Need-loop-holds Inv-loop μ-loop
 loop-holds c = reading-start _ _ _ (c .start .ensures)
 
 -- src/lib.rt:151:13
-row-end-requires : tie.Need-row-end-requires Inv-loop μ-loop
-row-end-requires c κs = search needs
-
 -- src/lib.rt:152:13
 row-at-requires : tie.Need-row-at-requires Inv-loop μ-loop
-row-at-requires c κs = (c .before .loop-test .taken, c .row-end .ensures)
+row-at-requires c κs = c .loop-test .taken
 
 -- src/lib.rt:153:13
 row-number-requires : tie.Need-row-number-requires Inv-loop μ-loop
 row-number-requires c κs =
     let R = c .before .before .before .before .before .before .loop .inv in
     let l = c .before .before .before .before .before .loop-test .taken in
-    (c .before .before .before .row-at .ensures .1, (R .running l .few, (R .bindsLong, R .standLong, R .holdLong)))
+    (c .before .before .before .before .row-at .ensures .1 .1, (R .running l .few, (R .bindsLong, R .keysLong, R .holdLong)))
 
 -- src/lib.rt:155:13
 store-requires : tie.Need-store-requires Inv-loop μ-loop
 store-requires c κs =
     let R = c .before .before .before .before .before .before .before .before .before .before .before .loop .inv in
     let l = c .before .before .before .before .before .before .before .before .before .before .loop-test .taken in
-    (c .before .before .before .before .before .before .before .before .row-at .ensures .1, (c .before .before .before .before .row-number .ensures .1 (c .before .before .before .if1 .taken), (R .bindsLong, R .standLong, R .holdLong)))
+    (c .before .before .before .before .before .before .before .before .before .row-at .ensures .1 .1, (c .before .before .before .before .row-number .ensures .1 (c .before .before .before .if1 .taken), (R .bindsLong, R .standLong, R .holdLong)))
+
+keep-key-requires : tie.Need-keep-key-requires Inv-loop μ-loop
+keep-key-requires c κs =
+    let R = c .before .before .before .before .before .before .before .before .before .before .before .before .before .loop .inv in
+    (c .before .before .before .before .before .before .before .before .before .before .before .row-at .ensures .1 .1, (c .before .before .before .before .before .before .row-number .ensures .1 (c .before .before .before .before .before .if1 .taken), R .keysLong))
 
 -- src/lib.rt:156:13
 counted-requires : tie.Need-counted-requires Inv-loop μ-loop
 counted-requires c κs =
-    let R = c .before .before .before .before .before .before .before .before .before .before .before .before .loop .inv in
-    let l = c .before .before .before .before .before .before .before .before .before .before .before .loop-test .taken in
+    let R = c .before .before .before .before .before .before .before .before .before .before .before .before .before .before .loop .inv in
+    let l = c .before .before .before .before .before .before .before .before .before .before .before .before .before .loop-test .taken in
     let r = R .running l in
-    (omega (arith, R .counted, l, long (c .before .before .before .before .before .before .before .before .before .before .before .before .before .before .before)), (omega (arith, r .few), omega (arith, r .rootless), omega (arith, r .lineless)))
+    (omega (arith, R .counted, l, long (c .before .before .before .before .before .before .before .before .before .before .before .before .before .before .before .before .before)), (omega (arith, r .few), omega (arith, r .rootless), omega (arith, r .lineless)))
 
 -- src/lib.rt:157:18
 add-at : tie.Need-add-at Inv-loop μ-loop
 add-at c =
-    let R = c .before .before .before .before .before .before .before .before .before .before .before .before .before .loop .inv in
-    let l = c .before .before .before .before .before .before .before .before .before .before .before .before .loop-test .taken in
-    let e = row-within R l _ (c .before .before .before .before .before .before .before .before .before .before .before .row-end .ensures) in
-    omega (arith, e, long (c .before .before .before .before .before .before .before .before .before .before .before .before .before .before .before .before))
+    let R = c .before .before .before .before .before .before .before .before .before .before .before .before .before .before .before .loop .inv in
+    let l = c .before .before .before .before .before .before .before .before .before .before .before .before .before .before .loop-test .taken in
+    let e = row-within R l _ (c .before .before .before .before .before .before .before .before .before .before .before .before .before .row-at .ensures .0) in
+    omega (arith, e, long (c .before .before .before .before .before .before .before .before .before .before .before .before .before .before .before .before .before .before))
 
 -- src/lib.rt:150:5
 loop-less : tie.Need-loop-less Inv-loop μ-loop
 loop-less c =
-    let R = c .before .before .before .before .before .before .before .before .before .before .before .before .before .loop .inv in
-    let l = c .before .before .before .before .before .before .before .before .before .before .before .before .loop-test .taken in
-    omega (arith, l, c .before .before .before .before .before .before .before .before .before .before .before .row-end .ensures)
+    let R = c .before .before .before .before .before .before .before .before .before .before .before .before .before .before .before .loop .inv in
+    let l = c .before .before .before .before .before .before .before .before .before .before .before .before .before .before .loop-test .taken in
+    omega (arith, l, c .before .before .before .before .before .before .before .before .before .before .before .before .before .row-at .ensures .0)
 
 -- src/lib.rt:150:5
 loop-again : tie.Need-loop-again Inv-loop μ-loop
 loop-again c =
-    let R = c .before .before .before .before .before .before .before .before .before .before .before .before .before .loop .inv in
-    let l = c .before .before .before .before .before .before .before .before .before .before .before .before .loop-test .taken in
-    reading-more _ _ _ _ _ _ _ _ _ _ R l (c .before .before .before .before .before .before .before .before .before .before .row-at .ensures .0) (c .before .before .before .before .before .before .row-number .ensures .0) (c .before .before .before .before .before .before .before .before .before .before .row-at .ensures .1) (c .before .before .before .before .before .if1 .taken) (omega (arith, c .before .before .before .before .before .before .before .before .before .before .before .row-end .ensures)) (c .before .before .before .before .before .before .row-number .ensures .1 (c .before .before .before .before .before .if1 .taken)) (c .before .store .ensures .0) (c .before .store .ensures .1) _ (c .counted .ensures)
+    let R = c .before .before .before .before .before .before .before .before .before .before .before .before .before .before .before .loop .inv in
+    let l = c .before .before .before .before .before .before .before .before .before .before .before .before .before .before .loop-test .taken in
+    reading-more _ _ _ _ _ _ _ _ _ _ _ R l (c .before .before .before .before .before .before .before .before .before .before .before .before .before .row-at .ensures .1 .0) (c .before .before .before .before .before .before .before .before .row-number .ensures .0) (c .before .before .before .before .before .before .before .before .before .before .before .before .before .row-at .ensures .1 .1) (c .before .before .before .before .before .before .before .if1 .taken) (omega (arith, c .before .before .before .before .before .before .before .before .before .before .before .before .before .row-at .ensures .0)) (c .before .before .before .before .before .before .before .before .row-number .ensures .1 (c .before .before .before .before .before .before .before .if1 .taken)) (c .before .before .before .store .ensures .0) (c .before .before .before .store .ensures .1) (c .before .keep-key .ensures .0) (c .before .keep-key .ensures .1) _ (c .counted .ensures)
 
 -- src/lib.rt:159:13
 turned-away-requires : tie.Need-turned-away-requires Inv-loop μ-loop
@@ -105,11 +106,11 @@ loop-again-2 : tie.Need-loop-again-2 Inv-loop μ-loop
 loop-again-2 c =
     let R = c .before .before .before .before .before .before .before .before .before .loop .inv in
     let l = c .before .before .before .before .before .before .before .before .loop-test .taken in
-    reading-bad _ _ _ _ _ _ _ (c .before .before .before .before .before .before .before .row-end .result + 1) _ _ R l (c .before .before .before .before .before .before .row-at .ensures .0) (c .before .before .row-number .ensures .0) (c .before .if1 .left) _ (c .turned-away .ensures .0) (c .turned-away .ensures .1 .0) _ refl
+    reading-bad _ _ _ _ _ _ _ _ (c .before .before .before .before .before .before .before .row-at .result .end + 1) _ _ R l (c .before .before .before .before .before .before .before .row-at .ensures .1 .0) (c .before .before .row-number .ensures .0) (c .before .if1 .left) _ (c .turned-away .ensures .0) (c .turned-away .ensures .1 .0) _ refl
 
 -- src/lib.rt:142:1
 returns : tie.Need-returns Inv-loop μ-loop
-returns c = reading-end _ _ _ _ _ _ _ (c .before .loop .inv) (c .loop-test .left)
+returns c = reading-end _ _ _ _ _ _ _ _ (c .before .loop .inv) (c .loop-test .left)
 
 pub read-estimate-spec : {M : Type 1} → statement M
 read-estimate-spec =
@@ -119,10 +120,10 @@ read-estimate-spec =
     μ-loop
     start-requires
     loop-holds
-    row-end-requires
     row-at-requires
     row-number-requires
     store-requires
+    keep-key-requires
     counted-requires
     add-at
     loop-less

@@ -2,7 +2,7 @@ use borrow.Author.Needs.{needs}
 use mathlib.Core.Path.{sym, ap₂, _∙_}
 use native.Mathlib.Omega.{arith}
 use Rattle.scan.specs.Numbers.{earlyOf}
-use Rattle.estimates.proofs.Rows.{number-early, number-seen, number-late, passed}
+use Rattle.estimates.proofs.Rows.{number-early, number-seen, number-late, passed, no-process}
 use Rattle.estimates.proofs.row_number.Statement.{statement}
 use Rattle.estimates.proofs.row_number.Tie as tie
 use Rattle.estimates.proofs.row_number.Reads as reads
@@ -11,7 +11,6 @@ use Rattle.estimates.proofs.is_full.Reads as is-full-reads
 use Rattle.estimates.proofs.is_placed.Reads as is-placed-reads
 use Rattle.estimates.proofs.is_seen.Reads as is-seen-reads
 use Rattle.scan.proofs.early.Reads as early-reads
-use Rattle.scan.proofs.late.Reads as late-reads
 
 -- src/lib.rt:87:34
 is-full-requires : tie.Need-is-full-requires
@@ -30,7 +29,7 @@ returns : tie.Need-returns
 returns c =
     let s = c .before .before .before .before in
     let e = c .before .early .ensures ∙ ap₂ (earlyOf (s .args .row)) (c .before .before .before .is-full .ensures) (c .before .before .is-placed .ensures) in
-    (λ n above Y T. number-early n above (s .args .row) (s .args .tally) (s .pre .0) Y T _ e (c .if1 .taken), λ z. absurd (c .if1 .taken z))
+    (λ n above stand Y T K. number-early n above (s .args .row) (s .args .tally) (s .pre .0) Y T _ e (c .if1 .taken), λ z. absurd (c .if1 .taken z))
 
 -- src/lib.rt:91:8
 is-seen-requires : tie.Need-is-seen-requires
@@ -44,14 +43,15 @@ returns-2 : tie.Need-returns-2
 returns-2 c =
     let s = c .before .before .before .before .before .before in
     let e = c .before .before .before .early .ensures ∙ ap₂ (earlyOf (s .args .row)) (c .before .before .before .before .before .is-full .ensures) (c .before .before .before .before .is-placed .ensures) in
-    (λ n above Y T. number-seen n above (s .args .row) (s .args .tally) (s .pre .0) Y T (sym e ∙ c .before .before .if1 .left) (sym (c .if2 .taken) ∙ c .before .is-seen .ensures n above Y T), λ z. absurd (omega arith))
+    (λ n above stand Y T K. number-seen n above (s .args .row) (s .args .tally) (s .pre .0) Y T (sym e ∙ c .before .before .if1 .left) (sym (c .if2 .taken) ∙ c .before .is-seen .ensures n above stand Y T K), λ z. absurd (omega arith))
 
 -- src/lib.rt:94:5
-late-requires : tie.Need-late-requires
-late-requires c κs =
+sited-requires : tie.Need-sited-requires
+sited-requires c κs =
     let s = c .before .before .before .before .before .before in
     let e = c .before .before .before .early .ensures ∙ ap₂ (earlyOf (s .args .row)) (c .before .before .before .before .before .is-full .ensures) (c .before .before .before .before .is-placed .ensures) in
-    (s .pre .0, passed (s .args .row) (s .args .tally) (sym e ∙ c .before .before .if1 .left) .some)
+    let P = passed (s .args .row) (s .args .tally) (sym e ∙ c .before .before .if1 .left) in
+    (s .pre .0, (P .some, no-process (s .args .row) (s .args .tally) P))
 
 -- src/lib.rt:73:1
 returns-3 : tie.Need-returns-3
@@ -59,7 +59,7 @@ returns-3 c =
     let s = c .before .before .before .before .before .before .before in
     let e = c .before .before .before .before .early .ensures ∙ ap₂ (earlyOf (s .args .row)) (c .before .before .before .before .before .before .is-full .ensures) (c .before .before .before .before .before .is-placed .ensures) in
     let z = sym e ∙ c .before .before .before .if1 .left in
-    (λ n above Y T. number-late n above (s .args .row) (s .args .tally) (s .pre .0) Y T z _ (c .late .ensures) (sym (c .before .if2 .left) ∙ c .before .before .is-seen .ensures n above Y T), λ q. passed (s .args .row) (s .args .tally) z)
+    (λ n above stand Y T K. number-late n above (s .args .row) (s .args .tally) (s .pre .0) Y T z _ (c .sited .ensures) (sym (c .before .if2 .left) ∙ c .before .before .is-seen .ensures n above stand Y T K), λ q. passed (s .args .row) (s .args .tally) z)
 
 pub row-number-spec : {M : Type 1} → statement M
 row-number-spec =
@@ -71,5 +71,5 @@ row-number-spec =
     returns
     is-seen-requires
     returns-2
-    late-requires
+    sited-requires
     returns-3)

@@ -5,9 +5,6 @@ use Rattle.text.specs.Fields.{letterOf}
 use Rattle.forms.proofs.row_of.Statement.{statement}
 use Rattle.forms.proofs.row_of.Tie as tie
 
-cuts-requires : tie.Need-cuts-requires
-cuts-requires c κs = search needs
-
 field-requires : tie.Need-field-requires
 field-requires c κs = search needs
 
@@ -15,7 +12,7 @@ letter-requires : tie.Need-letter-requires
 letter-requires c κs = search needs
 
 row-in-requires : tie.Need-row-in-requires
-row-in-requires c κs = (search needs, c .before .letter .ensures ∙ ap letterOf (c .before .before .field .ensures))
+row-in-requires c κs = (search needs, c .letter .ensures ∙ ap letterOf (c .before .field .ensures))
 
 returns : tie.Need-returns
 unfolding rowOf
@@ -23,4 +20,4 @@ returns c = c .row-in .ensures
 
 pub row-of-spec : {M : Type 1} → statement M
 row-of-spec =
-    tie.close (tie.spec cuts-requires field-requires letter-requires row-in-requires returns)
+    tie.close (tie.spec field-requires letter-requires row-in-requires returns)

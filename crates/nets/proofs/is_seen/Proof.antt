@@ -36,23 +36,23 @@ root-seen-requires c κs = (c .before .pre .0, (c .before .pre .1 .1 .0, (c .bef
 
 -- src/lib.rt:67:1
 returns : tie.Need-returns
-returns c = λ above lines Y T. c .pair-seen .ensures above (Y .kept) (T .homesIs ∙ ap (λ (g : ℕ). gather 1024 pairPlace (λ x. x .rights) (ofGroup g above)) (sym (c .before .match .keys1)))
+returns c = λ above tuples lines Y T K. c .pair-seen .ensures above (Y .kept) (T .homesIs ∙ ap (λ (g : ℕ). gather 1024 pairPlace (λ x. x .rights) (ofGroup g above)) (sym (c .before .match .keys1)))
 
 -- src/lib.rt:67:1
 returns-2 : tie.Need-returns-2
-returns-2 c = λ above lines Y T. c .box-seen .ensures above (Y .kept) (T .boxesIs)
+returns-2 c = λ above tuples lines Y T K. c .box-seen .ensures above (Y .kept) (T .boxesIs)
 
 -- src/lib.rt:67:1
 returns-3 : tie.Need-returns-3
-returns-3 c = λ above lines Y T. c .tuple-seen .ensures above (Y .kept) (T .tuplesIs ∙ ap (λ (g : ℕ). map (λ x. x .sites) (ofGroup g above)) (sym (c .before .match .keys3)))
+returns-3 c = λ above tuples lines Y T K. c .tuple-seen .ensures above (Y .kept) (rw (c .before .match .keys3) K)
 
 -- src/lib.rt:67:1
 returns-4 : tie.Need-returns-4
-returns-4 c = λ above lines Y T. c .root-seen .ensures above (Y .kept) (T .rootsIs)
+returns-4 c = λ above tuples lines Y T K. c .root-seen .ensures above (Y .kept) (T .rootsIs)
 
 -- src/lib.rt:67:1
 returns-5 : tie.Need-returns-5
-returns-5 c = λ above lines Y T. seen-rest _ _ above Y (group-is _ (c .before .pre .0) (c .before .pre .1 .0)) (c .before .pre .1 .1 .1 .0) (c .before .pre .1 .0) (c .match .rest .0 .0 .0 .1) (c .match .rest .0 .0 .1) (c .match .rest .0 .1) (c .match .rest .1)
+returns-5 c = λ above tuples lines Y T K. seen-rest _ _ above Y (group-is _ (c .before .pre .0) (c .before .pre .1 .0)) (c .before .pre .1 .1 .1 .0) (c .before .pre .1 .0) (c .match .rest .0 .0 .0 .1) (c .match .rest .0 .0 .1) (c .match .rest .0 .1) (c .match .rest .1)
 
 pub is-seen-spec : {M : Type 1} → statement M
 is-seen-spec =

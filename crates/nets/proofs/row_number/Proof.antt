@@ -31,7 +31,7 @@ early-requires c κs = search needs
 
 -- src/lib.rt:108:9
 returns : tie.Need-returns
-returns c = (λ above lines Y T. number-is _ _ above T Y (c .before .before .before .before .pre .0) ∙ ap (λ (n : ℕ). judgedBy n (rowData (c .before .before .before .before .args .row))) (ap (λ (e : ℕ). numberOf e (repeated above (rowData (c .before .before .before .before .args .row))) (lateOf (c .before .before .before .before .args .tally .size) (rowData (c .before .before .before .before .args .row)))) (sym (c .before .early .ensures ∙ ap₂ (earlyOf (c .before .before .before .before .args .row)) (c .before .before .before .is-full .ensures) (c .before .before .is-placed .ensures))) ∙ number-first _ _ _ (c .if1 .taken)), λ z. absurd (c .if1 .taken z))
+returns c = (λ above tuples lines Y T K. number-is _ _ above T Y (c .before .before .before .before .pre .0) ∙ ap (λ (n : ℕ). judgedBy n (rowData (c .before .before .before .before .args .row))) (ap (λ (e : ℕ). numberOf e (repeated above (rowData (c .before .before .before .before .args .row))) (lateOf (c .before .before .before .before .args .tally .size) (rowData (c .before .before .before .before .args .row)))) (sym (c .before .early .ensures ∙ ap₂ (earlyOf (c .before .before .before .before .args .row)) (c .before .before .before .is-full .ensures) (c .before .before .is-placed .ensures))) ∙ number-first _ _ _ (c .if1 .taken)), λ z. absurd (c .if1 .taken z))
 
 -- src/lib.rt:110:8
 is-seen-requires : tie.Need-is-seen-requires
@@ -39,7 +39,7 @@ is-seen-requires c κs = let E = early-passed _ (sym (c .before .early .ensures 
 
 -- src/lib.rt:111:9
 returns-2 : tie.Need-returns-2
-returns-2 c = (λ above lines Y T. number-is _ _ above T Y (c .before .before .before .before .before .before .pre .0) ∙ ap (λ (n : ℕ). judgedBy n (rowData (c .before .before .before .before .before .before .args .row))) (number-again _ _ _ (sym (c .before .before .before .early .ensures ∙ ap₂ (earlyOf (c .before .before .before .before .before .before .args .row)) (c .before .before .before .before .before .is-full .ensures) (c .before .before .before .before .is-placed .ensures)) ∙ c .before .before .if1 .left) (sym (c .before .is-seen .ensures above lines Y T) ∙ c .if2 .taken)), λ z. absurd (omega arith))
+returns-2 c = (λ above tuples lines Y T K. number-is _ _ above T Y (c .before .before .before .before .before .before .pre .0) ∙ ap (λ (n : ℕ). judgedBy n (rowData (c .before .before .before .before .before .before .args .row))) (number-again _ _ _ (sym (c .before .before .before .early .ensures ∙ ap₂ (earlyOf (c .before .before .before .before .before .before .args .row)) (c .before .before .before .before .before .is-full .ensures) (c .before .before .before .before .is-placed .ensures)) ∙ c .before .before .if1 .left) (sym (c .before .is-seen .ensures above tuples lines Y T K) ∙ c .if2 .taken)), λ z. absurd (omega arith))
 
 -- src/lib.rt:113:5
 late-requires : tie.Need-late-requires
@@ -47,7 +47,7 @@ late-requires c κs = let E = early-passed _ (sym (c .before .before .before .ea
 
 -- src/lib.rt:93:1
 returns-3 : tie.Need-returns-3
-returns-3 c = (λ above lines Y T. number-is _ _ above T Y (c .before .before .before .before .before .before .before .pre .0) ∙ ap (λ (n : ℕ). judgedBy n (rowData (c .before .before .before .before .before .before .before .args .row))) (number-last _ _ _ (sym (c .before .before .before .before .early .ensures ∙ ap₂ (earlyOf (c .before .before .before .before .before .before .before .args .row)) (c .before .before .before .before .before .before .is-full .ensures) (c .before .before .before .before .before .is-placed .ensures)) ∙ c .before .before .before .if1 .left) (sym (c .before .before .is-seen .ensures above lines Y T) ∙ c .before .if2 .left) ∙ sym (c .late .ensures)), λ z. let E = early-passed _ (sym (c .before .before .before .before .early .ensures ∙ ap₂ (earlyOf (c .before .before .before .before .before .before .before .args .row)) (c .before .before .before .before .before .before .is-full .ensures) (c .before .before .before .before .before .is-placed .ensures)) ∙ c .before .before .before .if1 .left) in record { some = E .0; low = E .1; room = E .2; placed = E .3 })
+returns-3 c = (λ above tuples lines Y T K. number-is _ _ above T Y (c .before .before .before .before .before .before .before .pre .0) ∙ ap (λ (n : ℕ). judgedBy n (rowData (c .before .before .before .before .before .before .before .args .row))) (number-last _ _ _ (sym (c .before .before .before .before .early .ensures ∙ ap₂ (earlyOf (c .before .before .before .before .before .before .before .args .row)) (c .before .before .before .before .before .before .is-full .ensures) (c .before .before .before .before .before .is-placed .ensures)) ∙ c .before .before .before .if1 .left) (sym (c .before .before .is-seen .ensures above tuples lines Y T K) ∙ c .before .if2 .left) ∙ sym (c .late .ensures)), λ z. let E = early-passed _ (sym (c .before .before .before .before .early .ensures ∙ ap₂ (earlyOf (c .before .before .before .before .before .before .before .args .row)) (c .before .before .before .before .before .before .is-full .ensures) (c .before .before .before .before .before .is-placed .ensures)) ∙ c .before .before .before .if1 .left) in record { some = E .0; low = E .1; room = E .2; placed = E .3 })
 
 pub row-number-spec : {M : Type 1} → statement M
 row-number-spec =
