@@ -1,50 +1,92 @@
 //! An arrival brought into the engine's state.
 ghost use mathlib.Core.Path.{_≡_};
-ghost use Prim.Native.Nat.{_+_};
-ghost use Rattle.klaim.specs.Engine.{joined as joinedOf};
-ghost use Rattle.tables.specs.View.{linesView};
-ghost use Rattle.state.specs.View.{stateView};
+ghost use Prim.Native.Nat.{ℕ, _<_, _≤_};
+ghost use lib.Dec.{eqb};
+ghost use lib.ListN.{length};
+ghost use Rattle.sets.specs.Lists.{_&_, either};
+ghost use Rattle.sets.specs.Bits.{mem};
+ghost use Rattle.klaim.specs.Process.{tree};
+ghost use Rattle.klaim.specs.Net.{Net, Estimate};
+ghost use Rattle.tables.specs.View.{linesView, rowsView, InForm};
+ghost use Rattle.rules.specs.Masks.{Sized};
+ghost use Rattle.door.specs.Parts.{sound as soundOf};
 ghost use Rattle.state.specs.Fits.{Fits};
-ghost use Rattle.brings.specs.Brought.{Brought, Joinable};
-use arrivals::ArrivalRead;
+ghost use Rattle.brings.specs.Brought.{Brought};
 use state::State;
 
-// The state with the arrival's lines behind the present ones, and the root among the roots.
-fn joined(state: State, read: ArrivalRead) -> State
-    requires { ⌜ Joinable state read ⌝ }
-    ensures { λ r. ⌜ stateView r ≡ joinedOf (stateView state) (linesView (read .count) (read .lines)) ⌝ }
-    ensures { λ r. ⌜ (r .nthreads ≡ state .nthreads) × (r .narrivals ≡ state .narrivals + 1) × (r .nlines ≡ state .nlines + read .count) × (r .own ≡ state .own) ⌝ }
+// The set with site l too, if `here`.
+fn with_site(sites: u32, l: u8, here: bool) -> u32
+    requires { ⌜ l < 32 ⌝ }
+    ensures { λ r. ⌜ ((s : ℕ) → mem s r ≡ either (mem s sites) (here & eqb l s)) ⌝ }
 {
-    let n = state.nlines;
-    let m = read.count;
-    let k = state.narrivals;
-    let arrival = read.lines;
-    let mut lines = state.lines;
-    renumber::append_moved(&mut lines, n, &arrival, m);
-    let mut next = state;
-    next.lines = lines;
-    next.nlines = n + m;
-    next.arrivals[k] = n as u8;
-    next.narrivals = k + 1;
-    next
+    if here {
+        return sites | sets::single(l);
+    }
+    sites
 }
 
-// An arrival's rows brought: the answer is the root's line number, or a refusal.
+// The set of sites below `size` at which the arrival whose root is line q is sound.
+fn sound_sites<'a>(
+    lines: &'a [u8; 2560],
+    n: usize,
+    boxes: &'a [u8; 1056],
+    binds: &'a [u32; 32],
+    hold: &'a [u8; 1024],
+    stand: &'a [u8; 1536],
+    nstand: usize,
+    size: u8,
+    q: u8,
+) -> u32
+    requires { ⌜ InForm n (now lines) q × (n ≤ 256) × (length (now lines) ≡ 2560) × Sized nstand (now stand) × (size ≤ 32) ⌝ }
+    ensures { λ r. ⌜ ((N : Net) (E : Estimate) → N .boxes ≡ now (boxes .entry) → E .binds ≡ now (binds .entry) → E .hold ≡ now (hold .entry) → E .stand ≡ rowsView nstand (now (stand .entry)) → (l : ℕ) → l < size → mem l r ≡ soundOf N E l (tree (linesView n (now (lines .entry))) q)) ⌝ }
+{
+    let mut sites: u32 = 0;
+    let mut l: u8 = 0;
+    while l < size {
+        let here = door::sound(lines, n, boxes, binds, hold, stand, nstand, l, q);
+        sites = with_site(sites, l, here);
+        l += 1;
+    }
+    sites
+}
+
+// An arrival's rows brought: the answer is the root's line number, or a refusal. Its lines stand behind the present ones, and its
+// root among the roots.
 pub fn bring(state: State, rows: &[u8]) -> State
     requires { ⌜ Fits state ⌝ }
     ensures { λ next. ⌜ Brought state (now (rows .entry)) next ⌝ }
 {
+    let mut next = state;
     let size = state.net.size;
     let n = state.nlines;
     let read = arrivals::read_arrival(size, n, rows);
     let number = read.number;
     if number != 0 {
-        let row = read.row;
-        let mut kept = state;
-        kept.told = state::refused(number, row);
-        return kept;
+        next.told = state::refused(number, read.row);
+        return next;
     }
-    let mut next = joined(state, read);
-    next.told = state::brought(n as u8);
+    let m = read.count;
+    let arrival = read.lines;
+    renumber::append_moved(&mut next.lines, n, &arrival, m);
+    let count = n + m;
+    let root = n as u8;
+    let nstand = next.estimate.nstand;
+    let sites = sound_sites(
+        &next.lines,
+        count,
+        &next.net.boxes,
+        &next.estimate.binds,
+        &next.estimate.hold,
+        &next.estimate.stand,
+        nstand,
+        size,
+        root,
+    );
+    let k = next.narrivals;
+    next.nlines = count;
+    next.arrivals[k] = root;
+    next.sound[k] = sites;
+    next.narrivals = k + 1;
+    next.told = state::brought(root);
     next
 }

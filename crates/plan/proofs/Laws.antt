@@ -1,16 +1,16 @@
 -- Laws of what a step comes to, case by case.
 -- Assumes nothing.
-use mathlib.Core.Path.{_≡_, sym, ap, ap₂, subst, _∙_}
+use mathlib.Core.Path.{_≡_, refl, sym, ap, ap₂, subst, _∙_}
 use mathlib.Core.Bool.{Bool, true, false, cond}
 use mathlib.Core.List.{List, [], _∷_, _++_, map}
-use Prim.Native.Nat.{ℕ, suc, _<_, _≤_}
+use Prim.Native.Nat.{ℕ, zero, suc, _<_, _≤_}
 use native.Mathlib.Omega.{arith}
 use borrow.Author.Tests.{eq-eqb, ne-eqb}
 use lib.Dec.{eqb}
 use lib.ListN.{length, getD, getElem?, take, drop, drop-of-length-le}
 use lib.Seq.{drop-cons, length-take-le, getD-take}
-use Rattle.sets.specs.Lists.{either, any, among}
-use Rattle.sets.proofs.Lists.{among-in}
+use Rattle.sets.specs.Lists.{Elem, first, later, _&_, either, any, among}
+use Rattle.sets.specs.Bits.{mem}
 use Rattle.klaim.specs.declared.Loc.{Loc}
 use Rattle.klaim.specs.declared.Slot.{Slot}
 use Rattle.klaim.specs.declared.Slot.the-variants.{Value}
@@ -19,6 +19,8 @@ use Rattle.klaim.specs.Net.{Net, Estimate}
 use Rattle.klaim.specs.Report.{door}
 use Rattle.klaim.specs.Engine.{Plan, stop, quiet, act, after, to, under, value, bindAll, agrees, getPlan, acceptPlan, plan}
 use Rattle.klaim.specs.Process as Process
+use Rattle.door.specs.Parts.{usesFit}
+use Rattle.door.proofs.Laws.{door-parts}
 use Rattle.klaim.specs.State as Spec
 use Rattle.tables.specs.declared.Action.{Action}
 use Rattle.tables.specs.View.{fieldBytes, linesView, actionLine, rowsView, rowAt, LowAction, Decoded, InForm}
@@ -112,34 +114,64 @@ module _ (xs : List ℕ) (n r : ℕ) (long : n ≤ length xs) (i : ℕ) where
   unfolding among any
   root-none h = ap (any (eqb r)) (drop-of-length-le (take n xs) {i = i} (omega (arith, length-take-le n xs long)))
 
--- an arrival's root is a line
-pub root-low : {lines : List ℕ} {n : ℕ} {stand : List ℕ} {nstand : ℕ} {arrivals : List ℕ} {narrivals : ℕ} → Admits lines n stand nstand arrivals narrivals → (r : ℕ) → among (take narrivals arrivals) r ≡ true → r < n
-root-low w r t = w .arrivalsPresent r (among-in _ r t)
+-- the root at a place is a line
+module _ {lines : List ℕ} {n : ℕ} {arrivals : List ℕ} {narrivals : ℕ} {sets : List ℕ} (w : Admits lines n arrivals narrivals sets) (i : ℕ) (h : i < narrivals) where
+  place : (xs : List ℕ) (j : ℕ) → j < length xs → Elem (getD xs j 0) xs
+  place [] j k = absurd (omega arith)
+  place (x ∷ xs) zero k = first refl
+  place (x ∷ xs) (suc j) k = later (place xs j (omega arith))
 
-pub root-form : {lines : List ℕ} {n : ℕ} {stand : List ℕ} {nstand : ℕ} {arrivals : List ℕ} {narrivals : ℕ} → Admits lines n stand nstand arrivals narrivals → (r : ℕ) → r < n → InForm n lines r
-root-form w r h = record { inOrder = w .inOrder; present = h }
+  pub root-present : getD arrivals i 0 < n
+  root-present =
+      subst (λ (r : ℕ). r < n) (getD-take narrivals arrivals i 0 h)
+      (w .arrivalsPresent (getD (take narrivals arrivals) i 0) (place (take narrivals arrivals) i (omega (arith, w .arrivalsLong, w .arrivalsFew, length-take-le narrivals arrivals (omega (arith, w .arrivalsLong, w .arrivalsFew))))))
 
--- the two tests of accept, as the code makes them
-module _ {st : Spec.State} {lines : List ℕ} {n : ℕ} {boxes binds hold stand : List ℕ} {nstand : ℕ} {arrivals : List ℕ} {narrivals : ℕ} (w : Guests st lines n boxes binds hold stand nstand arrivals narrivals) where
+  pub root-form : InForm n lines (getD arrivals i 0)
+  root-form = record { inOrder = w .inOrder; present = root-present }
+
+-- the two parts of the door, the one without a sandbox tested first
+fits-sound : (u s : Bool) → s ≡ true → u ≡ (u & s)
+unfolding _&_
+fits-sound true s e = sym e
+fits-sound false s e = refl
+
+not-sound : (u s : Bool) → s ≡ false → false ≡ (u & s)
+unfolding _&_
+not-sound true s e = sym e
+not-sound false s e = refl
+
+-- the tests of the door and of accept, as the code makes them
+module _ {st : Spec.State} {l : ℕ} {lines : List ℕ} {n : ℕ} {boxes binds arrivals : List ℕ} {narrivals : ℕ} {sets : List ℕ} (w : Guests st l lines n boxes binds arrivals narrivals sets) where
   pub guest-known : (r : ℕ) {b : Bool} → among (take narrivals arrivals) r ≡ b → among (st .arrivals) r ≡ b
   guest-known r e = ap (λ (xs : List ℕ). among xs r) (w .arrivalsIs) ∙ e
 
-  pub guest-door : (d l r : ℕ) {p b : Bool} → ((N : Net) (E : Estimate) → N .boxes ≡ boxes → E .binds ≡ binds → E .hold ≡ hold → E .stand ≡ rowsView nstand stand → p ≡ door N E d l (tree (linesView n lines) r)) → p ≡ b → door (st .net) (st .estimate) d l (tree (st .lines) r) ≡ b
-  guest-door d l r h e =
-      ap (λ (ls : List Line). door (st .net) (st .estimate) d l (tree ls r)) (w .linesIs)
-      ∙ sym (h (st .net) (st .estimate) (w .boxesIs) (w .bindsIs) (w .holdIs) (w .standIs))
-      ∙ e
+  module _ (d i : ℕ) (h : i < narrivals) {m : Bool} (e : m ≡ mem l (getD sets i 0)) where
+    pub guest-sound : m ≡ true → {p : Bool} → ((N : Net) (E : Estimate) → N .boxes ≡ boxes → E .binds ≡ binds → p ≡ usesFit N E d l (tree (linesView n lines) (getD arrivals i 0))) → p ≡ door (st .net) (st .estimate) d l (tree (st .lines) (getD arrivals i 0))
+    guest-sound t u =
+        u (st .net) (st .estimate) (w .boxesIs) (w .bindsIs)
+        ∙ ap (λ (ls : List Line). usesFit (st .net) (st .estimate) d l (tree ls (getD arrivals i 0))) (sym (w .linesIs))
+        ∙ fits-sound _ _ (sym (w .soundIs i h) ∙ sym e ∙ t)
+        ∙ door-parts (st .net) (st .estimate) d l (tree (st .lines) (getD arrivals i 0))
+
+    pub guest-unsound : m ≡ false → false ≡ door (st .net) (st .estimate) d l (tree (st .lines) (getD arrivals i 0))
+    guest-unsound t =
+        not-sound _ _ (sym (w .soundIs i h) ∙ sym e ∙ t)
+        ∙ door-parts (st .net) (st .estimate) d l (tree (st .lines) (getD arrivals i 0))
+
+  -- the door of a root found at a place
+  pub guest-door : (d i r : ℕ) → getD arrivals i 0 ≡ r → {p b : Bool} → p ≡ door (st .net) (st .estimate) d l (tree (st .lines) (getD arrivals i 0)) → p ≡ b → door (st .net) (st .estimate) d l (tree (st .lines) r) ≡ b
+  guest-door d i r q h e = sym (ap (λ (x : ℕ). door (st .net) (st .estimate) d l (tree (st .lines) x)) q) ∙ sym h ∙ e
 
 -- of all tables, those of the door
-pub guests : {st : Spec.State} {lines : List ℕ} {n : ℕ} {boxes binds hold stand : List ℕ} {nstand : ℕ} {arrivals : List ℕ} {narrivals : ℕ} {tuples : List ℕ} {ntuples : ℕ} → Tables st lines n boxes binds hold stand nstand arrivals narrivals tuples ntuples → Guests st lines n boxes binds hold stand nstand arrivals narrivals
-guests w = record { linesIs = w .linesIs; boxesIs = w .boxesIs; bindsIs = w .bindsIs; holdIs = w .holdIs; standIs = w .standIs; arrivalsIs = w .arrivalsIs }
+pub guests : {st : Spec.State} {l : ℕ} {lines : List ℕ} {n : ℕ} {boxes binds arrivals : List ℕ} {narrivals : ℕ} {sets tuples : List ℕ} {ntuples : ℕ} → Tables st l lines n boxes binds arrivals narrivals sets tuples ntuples → Guests st l lines n boxes binds arrivals narrivals sets
+guests w = record { linesIs = w .linesIs; boxesIs = w .boxesIs; bindsIs = w .bindsIs; arrivalsIs = w .arrivalsIs; soundIs = w .soundIs }
 
-module _ {lines : List ℕ} {n : ℕ} {stand : List ℕ} {nstand : ℕ} {arrivals : List ℕ} {narrivals : ℕ} {tuples : List ℕ} {ntuples : ℕ} {th : Thread} (p : Plannable lines n stand nstand arrivals narrivals tuples ntuples th) where
-  pub admits : Admits lines n stand nstand arrivals narrivals
-  admits = record { linesLong = p .linesLong; linesFew = p .linesFew; inOrder = p .inOrder; sized = p .sized; arrivalsLong = p .arrivalsLong; arrivalsFew = p .arrivalsFew; arrivalsPresent = p .arrivalsPresent }
+module _ {lines : List ℕ} {n : ℕ} {arrivals : List ℕ} {narrivals : ℕ} {sets tuples : List ℕ} {ntuples : ℕ} {th : Thread} (p : Plannable lines n arrivals narrivals sets tuples ntuples th) where
+  pub admits : Admits lines n arrivals narrivals sets
+  admits = record { linesLong = p .linesLong; inOrder = p .inOrder; arrivalsLong = p .arrivalsLong; arrivalsFew = p .arrivalsFew; arrivalsPresent = p .arrivalsPresent; setsLong = p .setsLong }
 
   -- the plan for the line that the thread stands on, from that for its action
-  pub plan-at : {st : Spec.State} {boxes binds hold : List ℕ} → Tables st lines n boxes binds hold stand nstand arrivals narrivals tuples ntuples → {r : Action} → Decoded lines (th .line) r → {x : Action} → r ≡ x → (k m s : ℕ) {X : Plan} → X ≡ plan st k (threadView th) m s (actionLine x (fieldBytes lines (th .line))) → X ≡ plan st k (threadView th) m s (lineAt (st .lines) (th .line))
+  pub plan-at : {st : Spec.State} {l : ℕ} {boxes binds : List ℕ} → Tables st l lines n boxes binds arrivals narrivals sets tuples ntuples → {r : Action} → Decoded lines (th .line) r → {x : Action} → r ≡ x → (k m s : ℕ) {X : Plan} → X ≡ plan st k (threadView th) m s (actionLine x (fieldBytes lines (th .line))) → X ≡ plan st k (threadView th) m s (lineAt (st .lines) (th .line))
   plan-at {st} w {r} d {x} e k m s h =
       h
       ∙ sym (ap (plan st k (threadView th) m s)

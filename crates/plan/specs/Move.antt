@@ -5,12 +5,13 @@ use mathlib.Core.Bool.{true, cond}
 use mathlib.Core.List.{List, [], _∷_, _++_}
 use Prim.Native.Nat.{ℕ, _<_, _≤_}
 use lib.Dec.{eqb}
-use lib.ListN.{length, take}
+use lib.ListN.{length, getD, take}
 use Rattle.sets.specs.Lists.{Elem, splice}
-use Rattle.klaim.specs.Process.{ordered}
+use Rattle.sets.specs.Bits.{mem}
+use Rattle.klaim.specs.Process.{ordered, tree}
 use Rattle.klaim.specs.State as Spec
 use Rattle.klaim.specs.Engine.{Plan, stop, quiet, act, after}
-use Rattle.rules.specs.Masks.{Sized}
+use Rattle.door.specs.Parts.{sound}
 use Rattle.tables.specs.View.{linesView, rowsView, rowAt}
 use Rattle.threads.specs.View.{threadView}
 use Rattle.threads.specs.declared.Thread.{Thread}
@@ -31,45 +32,42 @@ planView st k m v =
     (cond (v .silent) (quiet (stateAfter st k m v)) (act (v .target) (v .right) (stateAfter st k m v)))
     (stop (v .stop))
 
--- a state has these tables
-pub record Tables (st : Spec.State) (lines : List ℕ) (n : ℕ) (boxes binds hold stand : List ℕ) (nstand : ℕ) (arrivals : List ℕ) (narrivals : ℕ) (tuples : List ℕ) (ntuples : ℕ) : Type 0 where
+-- a state has these tables, and the sets say of its arrivals whether they are sound at site l
+pub record Tables (st : Spec.State) (l : ℕ) (lines : List ℕ) (n : ℕ) (boxes binds arrivals : List ℕ) (narrivals : ℕ) (sets tuples : List ℕ) (ntuples : ℕ) : Type 0 where
   pub linesIs : st .lines ≡ linesView n lines
   pub boxesIs : st .net .boxes ≡ boxes
   pub bindsIs : st .estimate .binds ≡ binds
-  pub holdIs : st .estimate .hold ≡ hold
-  pub standIs : st .estimate .stand ≡ rowsView nstand stand
   pub arrivalsIs : st .arrivals ≡ take narrivals arrivals
+  pub soundIs : (i : ℕ) → i < narrivals → mem l (getD sets i 0) ≡ sound (st .net) (st .estimate) l (tree (st .lines) (getD arrivals i 0))
   pub tuplesIs : st .tuples ≡ rowsView ntuples tuples
 
 -- what the invariant gives of the tables, and of the thread that acts
-pub record Plannable (lines : List ℕ) (n : ℕ) (stand : List ℕ) (nstand : ℕ) (arrivals : List ℕ) (narrivals : ℕ) (tuples : List ℕ) (ntuples : ℕ) (th : Thread) : Type 0 where
+pub record Plannable (lines : List ℕ) (n : ℕ) (arrivals : List ℕ) (narrivals : ℕ) (sets tuples : List ℕ) (ntuples : ℕ) (th : Thread) : Type 0 where
   pub linesLong : length lines ≡ 2560
   pub linesFew : n ≤ 256
   pub inOrder : ordered (linesView n lines) ≡ true
-  pub sized : Sized nstand stand
   pub arrivalsLong : length arrivals ≡ 256
   pub arrivalsFew : narrivals ≤ 256
   pub arrivalsPresent : (r : ℕ) → Elem r (take narrivals arrivals) → r < n
+  pub setsLong : length sets ≡ 256
   pub tuplesLong : length tuples ≡ 1536
   pub tuplesFew : ntuples ≤ 256
   pub threadPresent : th .line < n
   pub threadPlaced : th .site .0 < 32
 
--- of the tables, those of the door
-pub record Guests (st : Spec.State) (lines : List ℕ) (n : ℕ) (boxes binds hold stand : List ℕ) (nstand : ℕ) (arrivals : List ℕ) (narrivals : ℕ) : Type 0 where
+-- of the tables, those of the door at site l
+pub record Guests (st : Spec.State) (l : ℕ) (lines : List ℕ) (n : ℕ) (boxes binds arrivals : List ℕ) (narrivals : ℕ) (sets : List ℕ) : Type 0 where
   pub linesIs : st .lines ≡ linesView n lines
   pub boxesIs : st .net .boxes ≡ boxes
   pub bindsIs : st .estimate .binds ≡ binds
-  pub holdIs : st .estimate .hold ≡ hold
-  pub standIs : st .estimate .stand ≡ rowsView nstand stand
   pub arrivalsIs : st .arrivals ≡ take narrivals arrivals
+  pub soundIs : (i : ℕ) → i < narrivals → mem l (getD sets i 0) ≡ sound (st .net) (st .estimate) l (tree (st .lines) (getD arrivals i 0))
 
 -- what the door asks of them
-pub record Admits (lines : List ℕ) (n : ℕ) (stand : List ℕ) (nstand : ℕ) (arrivals : List ℕ) (narrivals : ℕ) : Type 0 where
+pub record Admits (lines : List ℕ) (n : ℕ) (arrivals : List ℕ) (narrivals : ℕ) (sets : List ℕ) : Type 0 where
   pub linesLong : length lines ≡ 2560
-  pub linesFew : n ≤ 256
   pub inOrder : ordered (linesView n lines) ≡ true
-  pub sized : Sized nstand stand
   pub arrivalsLong : length arrivals ≡ 256
   pub arrivalsFew : narrivals ≤ 256
   pub arrivalsPresent : (r : ℕ) → Elem r (take narrivals arrivals) → r < n
+  pub setsLong : length sets ≡ 256

@@ -3,11 +3,12 @@ ghost use mathlib.Core.Path.{_≡_};
 ghost use mathlib.Core.Bool.{true, false, cond};
 ghost use mathlib.Core.List.{[], _∷_, map};
 ghost use Prim.Native.Nat.{ℕ, suc, _<_, _≤_};
-ghost use lib.Dec.{eqb};
-ghost use lib.ListN.{length, take, getElem?};
+ghost use lib.Dec.{eqb, ltb};
+ghost use lib.ListN.{length, getD, take, getElem?};
 ghost use Rattle.sets.specs.Lists.{among, splice};
 ghost use Rattle.klaim.specs.Process as Process;
-ghost use Rattle.klaim.specs.Process.{lineAt};
+ghost use Rattle.klaim.specs.Process.{lineAt, tree};
+ghost use Rattle.klaim.specs.Report.{door as doorOf};
 ghost use Rattle.klaim.specs.State as Spec;
 ghost use Rattle.klaim.specs.Engine.{plan as planOf, stop as stopped, quiet, act, after, getPlan, acceptPlan, value, bindAll, to as toLine};
 ghost use Rattle.tables.specs.View.{LowLoc, locOf, slotOf, fieldBytes, rowAt, rowsView};
@@ -249,17 +250,40 @@ fn plan_read(
     )
 }
 
-// Whether r is one of the n roots of arrivals.
-pub fn is_arrival(arrivals: &[u8; 256], n: usize, r: usize) -> bool
+// The place of root r among the n roots of arrivals, or n.
+pub fn arrival_at(arrivals: &[u8; 256], n: usize, r: usize) -> usize
     requires { ⌜ (n ≤ 256) × (length (now arrivals) ≡ 256) ⌝ }
-    ensures { λ b. ⌜ b ≡ among (take n (now (arrivals .entry))) r ⌝ }
+    ensures { λ i. ⌜ (i ≤ n) × (ltb i n ≡ among (take n (now (arrivals .entry))) r) × (i < n → getD (now (arrivals .entry)) i 0 ≡ r) ⌝ }
 {
     let mut i: usize = 0;
     while i < n {
         if matching::wide(arrivals[i]) == r {
-            return true;
+            return i;
         }
         i += 1;
+    }
+    n
+}
+
+// The door for arrival i at site l under sandbox d: it is sound there, and its use map lies within d evaluated at l.
+pub fn admitted(
+    lines: &[u8; 2560],
+    n: usize,
+    boxes: &[u8; 1056],
+    binds: &[u32; 32],
+    arrivals: &[u8; 256],
+    narrivals: usize,
+    sound: &[u32; 256],
+    i: usize,
+    l: u8,
+    d: u8,
+) -> bool
+    requires { ⌜ Admits (now lines) n (now arrivals) narrivals (now sound) × (i < narrivals) × (l < 32) × (d < 32) ⌝ }
+    ensures { λ b. ⌜ ((st : Spec.State) → Guests st l (now (lines .entry)) n (now (boxes .entry)) (now (binds .entry)) (now (arrivals .entry)) narrivals (now (sound .entry)) → b ≡ doorOf (st .net) (st .estimate) d l (tree (st .lines) (getD (now (arrivals .entry)) i 0))) ⌝ }
+{
+    let q = arrivals[i];
+    if sets::has_site(sound[i], l) {
+        return door::uses_fit(lines, n, boxes, binds, d, l, q);
     }
     false
 }
@@ -294,30 +318,29 @@ fn plan_accept(
     n: usize,
     boxes: &[u8; 1056],
     binds: &[u32; 32],
-    hold: &[u8; 1024],
-    stand: &[u8; 1536],
-    nstand: usize,
     arrivals: &[u8; 256],
     narrivals: usize,
+    sound: &[u32; 256],
     th: Thread,
     a: u8,
     d: u8,
     r: usize,
 ) -> Move
-    requires { ⌜ Admits (now lines) n (now stand) nstand (now arrivals) narrivals × (th .site .0 < 32) × (d < 32) ⌝ }
-    ensures { λ v. ⌜ ((st : Spec.State) (k m : ℕ) → Guests st (now (lines .entry)) n (now (boxes .entry)) (now (binds .entry)) (now (hold .entry)) (now (stand .entry)) nstand (now (arrivals .entry)) narrivals → planView st k m v ≡ planOf st k (threadView th) m r (Process.Accept a d)) ⌝ }
+    requires { ⌜ Admits (now lines) n (now arrivals) narrivals (now sound) × (th .site .0 < 32) × (d < 32) ⌝ }
+    ensures { λ v. ⌜ ((st : Spec.State) (k m : ℕ) → Guests st (th .site .0) (now (lines .entry)) n (now (boxes .entry)) (now (binds .entry)) (now (arrivals .entry)) narrivals (now (sound .entry)) → planView st k m v ≡ planOf st k (threadView th) m r (Process.Accept a d)) ⌝ }
     ensures { λ v. ⌜ (0 < v .right) × (v .change ≤ 1) ⌝ }
 {
-    if is_arrival(arrivals, narrivals, r) {
-        let q = r as u8;
-        let here = th.site;
-        let l = here.0;
-        if door::passes(lines, n, boxes, binds, hold, stand, nstand, d, l, q) {
-            return plan_guest(boxes, th, a, d, q);
-        }
-        return plan_stop(25, th);
+    let i = arrival_at(arrivals, narrivals, r);
+    if narrivals <= i {
+        return plan_stop(24, th);
     }
-    plan_stop(24, th)
+    let here = th.site;
+    let l = here.0;
+    if admitted(lines, n, boxes, binds, arrivals, narrivals, sound, i, l, d) {
+        let q = arrivals[i];
+        return plan_guest(boxes, th, a, d, q);
+    }
+    plan_stop(25, th)
 }
 
 // What a step of thread th comes to: m names a tuple, r an arrival's root.
@@ -326,19 +349,17 @@ pub fn plan<'a>(
     n: usize,
     boxes: &'a [u8; 1056],
     binds: &'a [u32; 32],
-    hold: &'a [u8; 1024],
-    stand: &'a [u8; 1536],
-    nstand: usize,
     arrivals: &'a [u8; 256],
     narrivals: usize,
+    sound: &'a [u32; 256],
     tuples: &'a [u8; 1536],
     ntuples: usize,
     th: Thread,
     m: usize,
     r: usize,
 ) -> Move
-    requires { ⌜ Plannable (now lines) n (now stand) nstand (now arrivals) narrivals (now tuples) ntuples th ⌝ }
-    ensures { λ v. ⌜ ((st : Spec.State) (k : ℕ) → Tables st (now (lines .entry)) n (now (boxes .entry)) (now (binds .entry)) (now (hold .entry)) (now (stand .entry)) nstand (now (arrivals .entry)) narrivals (now (tuples .entry)) ntuples → planView st k m v ≡ planOf st k (threadView th) m r (lineAt (st .lines) (th .line))) ⌝ }
+    requires { ⌜ Plannable (now lines) n (now arrivals) narrivals (now sound) (now tuples) ntuples th ⌝ }
+    ensures { λ v. ⌜ ((st : Spec.State) (k : ℕ) → Tables st (th .site .0) (now (lines .entry)) n (now (boxes .entry)) (now (binds .entry)) (now (arrivals .entry)) narrivals (now (sound .entry)) (now (tuples .entry)) ntuples → planView st k m v ≡ planOf st k (threadView th) m r (lineAt (st .lines) (th .line))) ⌝ }
     ensures { λ v. ⌜ 0 < v .right ⌝ }
     ensures { λ v. ⌜ (v .change ≡ 2 → m < ntuples) ⌝ }
 {
@@ -373,11 +394,9 @@ pub fn plan<'a>(
             n,
             boxes,
             binds,
-            hold,
-            stand,
-            nstand,
             arrivals,
             narrivals,
+            sound,
             th,
             next,
             sandbox,

@@ -23,7 +23,7 @@ use Rattle.klaim.specs.Report.{door}
 use Rattle.klaim.specs.Reader.{refused, gives}
 use Rattle.klaim.specs.State as Spec
 use Rattle.klaim.specs.State.{isNil}
-use Rattle.klaim.specs.Invariant.{Invariant, allBelow}
+use Rattle.klaim.specs.Invariant.{ThreadOk, Invariant}
 use Rattle.klaim.specs.Engine.{doorAlone, runnable, ready}
 use Rattle.tables.specs.View.{estimateView, lineByte, fieldBytes, locOf, lineBy, lineOf, linesView, actionLine, rowAt, rowsView, Decoded, InForm}
 use Rattle.tables.specs.declared.Action.{Action}
@@ -34,9 +34,8 @@ use Rattle.threads.proofs.Laws.{threads-long, thread-some}
 use Rattle.tuples.proofs.Rows.{rows-long}
 use Rattle.state.specs.declared.State.{State}
 use Rattle.state.specs.View.{groundView, stateView}
-use Rattle.state.specs.Fits.{Fits}
+use Rattle.state.specs.Fits.{soundAt, Fits}
 use Rattle.plan.specs.Move.{Tables, Plannable, Guests, Admits}
-use Rattle.plan.proofs.Laws.{guest-known}
 use Rattle.ready.specs.Runs.{standing, room, welcome, runs}
 use Rattle.ready.proofs.Runnable.{From, runnable-is, lowest-start, lowest-here, lowest-later, lowest-end}
 
@@ -113,20 +112,24 @@ none-more {P} {i} h e k s j l = go (ℕ-discrete j i)
     go (no p) = h j (omega arith)
 
 -- one arrival is welcome, or none
-module _ {st : Spec.State} {lines : List ℕ} {n : ℕ} {boxes binds hold stand : List ℕ} {nstand : ℕ} {arrivals : List ℕ} {narrivals : ℕ} (w : Guests st lines n boxes binds hold stand nstand arrivals narrivals) (th : Spec.Thread) {count : ℕ} (c : length (st .threads) ≡ count) {l : ℕ} (s : th .site ≡ l) (long : narrivals ≤ length arrivals) (a d : ℕ) where
-  welcome-is : (r : ℕ) → welcome st th a d r ≡ (door (st .net) (st .estimate) d l (tree (linesView n lines) r) & room count (linesView n lines) a r)
+module _ {st : Spec.State} {l : ℕ} {lines : List ℕ} {n : ℕ} {boxes binds arrivals : List ℕ} {narrivals : ℕ} {sets : List ℕ} (w : Guests st l lines n boxes binds arrivals narrivals sets) (th : Spec.Thread) {count : ℕ} (c : length (st .threads) ≡ count) (s : th .site ≡ l) (long : narrivals ≤ length arrivals) (a d : ℕ) where
+  welcome-is : (r : ℕ) → welcome st th a d r ≡ (door (st .net) (st .estimate) d l (tree (st .lines) r) & room count (st .lines) a r)
   unfolding welcome
-  welcome-is r = rw (w .linesIs, c, s)
+  welcome-is r = rw (c, s)
 
-  pub guest-here : (i : ℕ) → i < narrivals → {b : Bool} → b ≡ (door (st .net) (st .estimate) d l (tree (linesView n lines) (getD arrivals i 0)) & room count (linesView n lines) a (getD arrivals i 0)) → b ≡ true → true ≡ any (welcome st th a d) (st .arrivals)
+  pub guest-here : (i : ℕ) → i < narrivals → {b : Bool} → b ≡ (door (st .net) (st .estimate) d l (tree (st .lines) (getD arrivals i 0)) & room count (st .lines) a (getD arrivals i 0)) → b ≡ true → true ≡ any (welcome st th a d) (st .arrivals)
   guest-here i h e t =
       any-here (welcome st th a d) 0 (take narrivals arrivals) i (omega (arith, length-take-le narrivals arrivals long)) (ap (welcome st th a d) (getD-take narrivals arrivals i 0 h) ∙ welcome-is (getD arrivals i 0) ∙ sym e ∙ t)
       ∙ ap (any (welcome st th a d)) (sym (w .arrivalsIs))
 
-  pub guest-nowhere : ((i : ℕ) → i < narrivals → (door (st .net) (st .estimate) d l (tree (linesView n lines) (getD arrivals i 0)) & room count (linesView n lines) a (getD arrivals i 0)) ≡ false) → false ≡ any (welcome st th a d) (st .arrivals)
+  pub guest-nowhere : ((i : ℕ) → i < narrivals → (door (st .net) (st .estimate) d l (tree (st .lines) (getD arrivals i 0)) & room count (st .lines) a (getD arrivals i 0)) ≡ false) → false ≡ any (welcome st th a d) (st .arrivals)
   guest-nowhere h =
       any-nowhere (welcome st th a d) 0 (take narrivals arrivals) (λ i k. let m : i < narrivals = omega (arith, length-take-le narrivals arrivals long) in ap (welcome st th a d) (getD-take narrivals arrivals i 0 m) ∙ welcome-is (getD arrivals i 0) ∙ h i m)
       ∙ ap (any (welcome st th a d)) (sym (w .arrivalsIs))
+
+-- the room for an arrival
+pub room-for : {st : Spec.State} {l : ℕ} {lines : List ℕ} {n : ℕ} {boxes binds arrivals : List ℕ} {narrivals : ℕ} {sets : List ℕ} → Guests st l lines n boxes binds arrivals narrivals sets → (count a r : ℕ) {o : Bool} → o ≡ room count (linesView n lines) a r → o ≡ room count (st .lines) a r
+room-for w count a r e = e ∙ ap (λ (ls : List Line). room count ls a r) (sym (w .linesIs))
 
 -- the two tests of one arrival
 pub open-room : {p o : Bool} {x : Bool} → o ≡ x → o ≡ true → (z : Bool) → p ≡ z → p ≡ (z & x)
@@ -139,14 +142,8 @@ unfolding _&_
 no-room e t true = sym (sym e ∙ t)
 no-room e t false = refl
 
--- the root of arrival i is a line
-pub root-present : {lines : List ℕ} {n : ℕ} {stand : List ℕ} {nstand : ℕ} {arrivals : List ℕ} {narrivals : ℕ} → Admits lines n stand nstand arrivals narrivals → (i : ℕ) → i < narrivals → narrivals ≤ length arrivals → getD arrivals i 0 < n
-root-present {n = n} {arrivals = arrivals} {narrivals = narrivals} w i h long =
-    subst (λ (r : ℕ). r < n) (getD-take narrivals arrivals i 0 h)
-    (w .arrivalsPresent (getD (take narrivals arrivals) i 0) (place (λ r. true) 0 (take narrivals arrivals) i (omega (arith, length-take-le narrivals arrivals long))))
-
 -- what stands in the tables, said of the state
-module _ {st : Spec.State} {lines : List ℕ} {n : ℕ} {boxes binds hold stand : List ℕ} {nstand : ℕ} {arrivals : List ℕ} {narrivals : ℕ} {tuples : List ℕ} {ntuples : ℕ} (w : Tables st lines n boxes binds hold stand nstand arrivals narrivals tuples ntuples) where
+module _ {st : Spec.State} {l : ℕ} {lines : List ℕ} {n : ℕ} {boxes binds arrivals : List ℕ} {narrivals : ℕ} {sets tuples : List ℕ} {ntuples : ℕ} (w : Tables st l lines n boxes binds arrivals narrivals sets tuples ntuples) where
   pub room-of : {count : ℕ} → length (st .threads) ≡ count → (a b : ℕ) {r : Bool} → r ≡ room count (linesView n lines) a b → r ≡ room (length (st .threads)) (st .lines) a b
   room-of c a b e = e ∙ sym (ap₂ (λ (k : ℕ) (ls : List Line). room k ls a b) c (w .linesIs))
 
@@ -156,12 +153,12 @@ module _ {st : Spec.State} {lines : List ℕ} {n : ℕ} {boxes binds hold stand 
   pub more-of : ltb ntuples 256 ≡ ltb (length (st .tuples)) 256
   more-of = ap (λ (k : ℕ). ltb k 256) (sym (ap length (w .tuplesIs) ∙ rows-long ntuples tuples))
 
-module _ {lines : List ℕ} {n : ℕ} {stand : List ℕ} {nstand : ℕ} {arrivals : List ℕ} {narrivals : ℕ} {tuples : List ℕ} {ntuples : ℕ} {th : Thread} (p : Plannable lines n stand nstand arrivals narrivals tuples ntuples th) where
+module _ {lines : List ℕ} {n : ℕ} {arrivals : List ℕ} {narrivals : ℕ} {sets tuples : List ℕ} {ntuples : ℕ} {th : Thread} (p : Plannable lines n arrivals narrivals sets tuples ntuples th) where
   pub thread-form : InForm n lines (th .line)
   thread-form = record { inOrder = p .inOrder; present = p .threadPresent }
 
   -- the test for the line that the thread stands on, from that for its action
-  pub runs-at : {st : Spec.State} {boxes binds hold : List ℕ} → Tables st lines n boxes binds hold stand nstand arrivals narrivals tuples ntuples → {r : Action} → Decoded lines (th .line) r → {x : Action} → r ≡ x → {b : Bool} → b ≡ runs st (threadView th) (actionLine x (fieldBytes lines (th .line))) → b ≡ runs st (threadView th) (lineAt (st .lines) (th .line))
+  pub runs-at : {st : Spec.State} {l : ℕ} {boxes binds : List ℕ} → Tables st l lines n boxes binds arrivals narrivals sets tuples ntuples → {r : Action} → Decoded lines (th .line) r → {x : Action} → r ≡ x → {b : Bool} → b ≡ runs st (threadView th) (actionLine x (fieldBytes lines (th .line))) → b ≡ runs st (threadView th) (lineAt (st .lines) (th .line))
   runs-at {st} w {r} d {x} e h =
       h
       ∙ sym (ap (runs st (threadView th))
@@ -192,69 +189,74 @@ module _ (st : Spec.State) (items : List Thread) (count : ℕ) (e : st .threads 
     ready-later y j s = q ∙ lowest-later (runnable st) count k h (here-runs ∙ y) j s
 
 -- the tables of a state by value, and what its invariant gives of them
-pub tables : (st : State) → Tables (stateView st) (st .lines) (st .nlines) (st .net .boxes) (st .estimate .binds) (st .estimate .hold) (st .estimate .stand) (st .estimate .nstand) (st .arrivals) (st .narrivals) (st .tuples) (st .ntuples)
-unfolding stateView groundView estimateView
-tables st = record { linesIs = refl; boxesIs = refl; bindsIs = refl; holdIs = refl; standIs = refl; arrivalsIs = refl; tuplesIs = refl }
+module _ {st : State} (f : Fits st) where
+  pub tables : (l : ℕ) → l < st .net .size → Tables (stateView st) l (st .lines) (st .nlines) (st .net .boxes) (st .estimate .binds) (st .arrivals) (st .narrivals) (st .sound) (st .tuples) (st .ntuples)
+  unfolding stateView groundView estimateView soundAt
+  tables l h = record { linesIs = refl; boxesIs = refl; bindsIs = refl; arrivalsIs = refl; soundIs = λ i k. f .sound-is i l k h; tuplesIs = refl }
 
-module _ {st : State} (f : Fits st) (long-lines : length (st .lines) ≡ 2560) (long-stand : length (st .estimate .stand) ≡ 1536) (long-arrivals : length (st .arrivals) ≡ 256) where
-  pub fits-guests : Admits (st .lines) (st .nlines) (st .estimate .stand) (st .estimate .nstand) (st .arrivals) (st .narrivals)
-  unfolding stateView groundView estimateView allBelow
-  fits-guests =
-      let v = f .invariant in
-      let n : length (linesView (st .nlines) (st .lines)) ≡ st .nlines = length-view (st .nlines) (st .lines) in
-      record {
-        linesLong = long-lines;
-        linesFew = omega (arith, v .lines-few, n);
-        inOrder = v .lines-ordered;
-        sized = record {
-          few = omega (arith, v .stand-few, rows-long (st .estimate .nstand) (st .estimate .stand));
-          long = long-stand;
-          alone = v .stand-distinct;
-          low = all-turn (allBelow (st .net .size)) (allBelow 32) _ (λ t h. all-turn (λ x. ltb x (st .net .size)) (λ x. ltb x 32) t (λ x l. lt-ltb x 32 (omega (arith, ltb-lt x (st .net .size) l, v .sites-few))) h) (v .stand-fit);
-        };
-        arrivalsLong = long-arrivals;
-        arrivalsFew = omega (arith, v .lines-few, n, f .arrivals-few);
-        arrivalsPresent = λ r i. omega (arith, All-in (v .arrivals-ok) i .present, n);
-      }
-
-  pub fits-thread : length (st .tuples) ≡ 1536 → length (st .threads) ≡ 64 → (k : ℕ) → k < st .nthreads → Plannable (st .lines) (st .nlines) (st .estimate .stand) (st .estimate .nstand) (st .arrivals) (st .narrivals) (st .tuples) (st .ntuples) (getD (st .threads) k noThread)
+  pub fits-size : st .net .size ≤ 32
   unfolding stateView groundView
-  fits-thread long-tuples long-threads k h =
-      let v = f .invariant in
-      let g = fits-guests in
-      let t = All-get k (v .threads-ok) (thread-some (st .nthreads) (st .threads) k h (omega (arith, f .threads-few))) in
-      record {
-        linesLong = g .linesLong;
-        linesFew = g .linesFew;
-        inOrder = g .inOrder;
-        sized = g .sized;
-        arrivalsLong = g .arrivalsLong;
-        arrivalsFew = g .arrivalsFew;
-        arrivalsPresent = g .arrivalsPresent;
-        tuplesLong = long-tuples;
-        tuplesFew = omega (arith, v .tuples-few, rows-long (st .ntuples) (st .tuples));
-        threadPresent = omega (arith, t .present, length-view (st .nlines) (st .lines));
-        threadPlaced = omega (arith, t .placed, v .sites-few);
-      }
+  fits-size = f .invariant .sites-few
 
-pub fits-size : {st : State} → Fits st → st .net .size ≤ 32
-unfolding stateView groundView
-fits-size f = f .invariant .sites-few
+  module _ (long-lines : length (st .lines) ≡ 2560) (long-arrivals : length (st .arrivals) ≡ 256) (long-sound : length (st .sound) ≡ 256) where
+    pub fits-guests : Admits (st .lines) (st .nlines) (st .arrivals) (st .narrivals) (st .sound)
+    unfolding stateView
+    fits-guests =
+        let v = f .invariant in
+        let n : length (linesView (st .nlines) (st .lines)) ≡ st .nlines = length-view (st .nlines) (st .lines) in
+        record {
+          linesLong = long-lines;
+          inOrder = v .lines-ordered;
+          arrivalsLong = long-arrivals;
+          arrivalsFew = omega (arith, v .lines-few, n, f .arrivals-few);
+          arrivalsPresent = λ r i. omega (arith, All-in (v .arrivals-ok) i .present, n);
+          setsLong = long-sound;
+        }
+
+    module _ (long-threads : length (st .threads) ≡ 64) (k : ℕ) (h : k < st .nthreads) where
+      thread-ok : ThreadOk (st .net .size) (linesView (st .nlines) (st .lines)) (threadView (getD (st .threads) k noThread))
+      unfolding stateView groundView
+      thread-ok = All-get k (f .invariant .threads-ok) (thread-some (st .nthreads) (st .threads) k h (omega (arith, long-threads, f .threads-few)))
+
+      pub fits-tables : Tables (stateView st) (getD (st .threads) k noThread .site .0) (st .lines) (st .nlines) (st .net .boxes) (st .estimate .binds) (st .arrivals) (st .narrivals) (st .sound) (st .tuples) (st .ntuples)
+      fits-tables = tables (getD (st .threads) k noThread .site .0) (thread-ok .placed)
+
+      pub fits-thread : length (st .tuples) ≡ 1536 → Plannable (st .lines) (st .nlines) (st .arrivals) (st .narrivals) (st .sound) (st .tuples) (st .ntuples) (getD (st .threads) k noThread)
+      unfolding stateView
+      fits-thread long-tuples =
+          let v = f .invariant in
+          let g = fits-guests in
+          record {
+            linesLong = g .linesLong;
+            linesFew = omega (arith, v .lines-few, length-view (st .nlines) (st .lines));
+            inOrder = g .inOrder;
+            arrivalsLong = g .arrivalsLong;
+            arrivalsFew = g .arrivalsFew;
+            arrivalsPresent = g .arrivalsPresent;
+            setsLong = g .setsLong;
+            tuplesLong = long-tuples;
+            tuplesFew = omega (arith, v .tuples-few, rows-long (st .ntuples) (st .tuples));
+            threadPresent = omega (arith, thread-ok .present, length-view (st .nlines) (st .lines));
+            threadPlaced = omega (arith, thread-ok .placed, fits-size);
+          }
 
 -- the door called by itself, test by test
-module _ {st : Spec.State} {lines : List ℕ} {n : ℕ} {boxes binds hold stand : List ℕ} {nstand : ℕ} {arrivals : List ℕ} {narrivals : ℕ} (w : Guests st lines n boxes binds hold stand nstand arrivals narrivals) (r l d : ℕ) {b : Bool} (e : b ≡ among (take narrivals arrivals) r) where
+module _ (st : Spec.State) (r l d : ℕ) {b : Bool} (e : b ≡ among (st .arrivals) r) where
+  known : {x : Bool} → b ≡ x → among (st .arrivals) r ≡ x
+  known t = sym e ∙ t
+
   pub door-unknown : b ≡ false → refused 24 0 ≡ doorAlone st r l d
   unfolding doorAlone
-  door-unknown t = rw (guest-known w r (sym e ∙ t))
+  door-unknown t = rw (known t)
 
   pub door-far : b ≡ true → st .net .size ≤ l → refused 4 0 ≡ doorAlone st r l d
   unfolding doorAlone
-  door-far t h = rw (guest-known w r (sym e ∙ t), le-ltb l (st .net .size) h)
+  door-far t h = rw (known t, le-ltb l (st .net .size) h)
 
   pub door-other : b ≡ true → l < st .net .size → 32 ≤ d → refused 2 0 ≡ doorAlone st r l d
   unfolding doorAlone
-  door-other t h k = rw (guest-known w r (sym e ∙ t), lt-ltb l (st .net .size) h, le-ltb d 32 k)
+  door-other t h k = rw (known t, lt-ltb l (st .net .size) h, le-ltb d 32 k)
 
   pub door-gives : b ≡ true → l < st .net .size → d < 32 → {p : Bool} → door (st .net) (st .estimate) d l (tree (st .lines) r) ≡ p → gives p ≡ doorAlone st r l d
   unfolding doorAlone
-  door-gives t h k q = rw (guest-known w r (sym e ∙ t), lt-ltb l (st .net .size) h, lt-ltb d 32 k, q)
+  door-gives t h k q = rw (known t, lt-ltb l (st .net .size) h, lt-ltb d 32 k, q)

@@ -154,6 +154,7 @@ module _ (w : WorldRead) (net estimate : List ℕ) (e : worldAnswer w ≡ readBo
           threads-few = few;
           own-few = omega arith;
           arrivals-few = omega arith;
+          sound-is = λ i l h k. absurd (omega (arith, none));
           invariant = start-gives net estimate (stateView st) (sym r ∙ ap (λ (b : Bool). cond b (gives (stateView st)) (refused (st .told .number) (st .told .row))) (eq-eqb (st .told .number) 0 z));
         };
       }

@@ -53,6 +53,7 @@ begunOf N E ts number row = record {
   nlines = N .nlines;
   arrivals = replicate 256 0;
   narrivals = 0;
+  sound = replicate 256 0;
   threads = ts .items;
   nthreads = ts .count;
   tuples = N .tuples;

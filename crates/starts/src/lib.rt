@@ -140,6 +140,7 @@ fn begun(net: Net, estimate: Estimate, list: Threads, number: u8, row: usize) ->
     let threads = list.items;
     let nthreads = list.count;
     let arrivals = [0u8; 256];
+    let sound = [0u32; 256];
     let told = Told {
         number,
         row,
@@ -156,6 +157,7 @@ fn begun(net: Net, estimate: Estimate, list: Threads, number: u8, row: usize) ->
         nlines,
         arrivals,
         narrivals: 0,
+        sound,
         threads,
         nthreads,
         tuples,

@@ -1,14 +1,25 @@
 -- The invariant of the engine's state as the code has it.
 -- Assumes nothing.
-use Prim.Native.Nat.{_≤_}
-use lib.ListN.{length}
+use mathlib.Core.Path.{_≡_}
+use mathlib.Core.Bool.{Bool}
+use Prim.Native.Nat.{ℕ, _<_, _≤_}
+use lib.ListN.{getD}
+use Rattle.sets.specs.Bits.{mem}
+use Rattle.klaim.specs.Process.{tree}
 use Rattle.klaim.specs.Invariant.{Invariant}
+use Rattle.door.specs.Parts.{sound}
 use Rattle.state.specs.declared.State.{State}
 use Rattle.state.specs.View.{stateView}
 
--- the counts lie within the arrays, the net's lines among the lines, and what the state stands for has the invariant
+-- "all rules hold for its lines with place set l, .. and each of its eval lines adds nothing to a report": so it is with arrival i
+unfoldable pub soundAt : State → ℕ → ℕ → Bool
+soundAt st i l = sound (stateView st .net) (stateView st .estimate) l (tree (stateView st .lines) (getD (st .arrivals) i 0))
+
+-- the counts lie within the arrays, the net's lines among the lines, the set of each arrival has the sites at which it is sound,
+-- and what the state stands for has the invariant
 pub record Fits (st : State) : Type 0 where
   pub threads-few : st .nthreads ≤ 64
   pub own-few : st .own ≤ st .nlines
   pub arrivals-few : st .narrivals ≤ st .nlines
+  pub sound-is : (i l : ℕ) → i < st .narrivals → l < st .net .size → mem l (getD (st .sound) i 0) ≡ soundAt st i l
   pub invariant : Invariant (stateView st)

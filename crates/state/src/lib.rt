@@ -36,8 +36,8 @@ pub struct Ground {
     pub nroots: usize,
 }
 
-// The net, the estimate, the lines with those of the arrivals (the first `own` are the net's), the arrivals' roots, the threads,
-// the tuples.
+// The net, the estimate, the lines with those of the arrivals (the first `own` are the net's), the arrivals' roots, for each
+// arrival the set of sites at which it is sound (what the door tests without a sandbox), the threads, the tuples.
 pub struct State {
     pub net: Ground,
     pub own: usize,
@@ -46,6 +46,7 @@ pub struct State {
     pub nlines: usize,
     pub arrivals: [u8; 256],
     pub narrivals: usize,
+    pub sound: [u32; 256],
     pub threads: [Thread; 64],
     pub nthreads: usize,
     pub tuples: [u8; 1536],

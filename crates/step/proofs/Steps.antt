@@ -10,6 +10,7 @@ use borrow.Author.Tests.{ne-eqb}
 use lib.Dec.{eqb, leb, ltb}
 use lib.ListN.{length, getD, set, getElem?}
 use Rattle.sets.specs.Lists.{_&_, either, splice}
+use Rattle.sets.specs.Bits.{mem}
 use Rattle.sets.proofs.Lists.{All-in, All-get, all-turn, ltb-lt, lt-ltb, and-l, and-r, leb-le}
 use Rattle.klaim.specs.Process.{lineAt}
 use Rattle.klaim.specs.Reader.{Answer, refused, gives}
@@ -21,7 +22,6 @@ use Rattle.klaim.specs.Engine as Engine
 use Rattle.klaim.proofs.Invariant.{step-keeps}
 use Rattle.tables.specs.View.{estimateView, linesView, rowsView}
 use Rattle.tables.proofs.Lines.{length-view}
-use Rattle.rules.specs.Masks.{Sized}
 use Rattle.threads.specs.declared.Thread.{Thread}
 use Rattle.threads.specs.View.{noThread, threadView, threadsView}
 use Rattle.threads.proofs.Laws.{thread-some, thread-none, replace-view, push-view}
@@ -29,7 +29,7 @@ use Rattle.tuples.proofs.Rows.{rows-long}
 use Rattle.state.specs.declared.Told.{Told}
 use Rattle.state.specs.declared.State.{State}
 use Rattle.state.specs.View.{groundView, stateView, answerView, resultView}
-use Rattle.state.specs.Fits.{Fits}
+use Rattle.state.specs.Fits.{soundAt, Fits}
 use Rattle.plan.specs.declared.Move.{Move}
 use Rattle.plan.specs.Move.{tuplesAfter, stateAfter, planView, Tables, Plannable}
 use Rattle.step.specs.declared.Decision.{Decision}
@@ -41,11 +41,6 @@ pub no-thread : (guarded : Bool) (st : State) (k m r : ℕ) → st .nthreads ≤
 unfolding step stepOf stateView
 no-thread guarded st k m r h few = rw (thread-none (st .nthreads) (st .threads) k h few)
 
--- the tables of a state
-pub tables : (st : State) → Tables (stateView st) (st .lines) (st .nlines) (st .net .boxes) (st .estimate .binds) (st .estimate .hold) (st .estimate .stand) (st .estimate .nstand) (st .arrivals) (st .narrivals) (st .tuples) (st .ntuples)
-unfolding stateView groundView estimateView
-tables st = record { linesIs = refl; boxesIs = refl; bindsIs = refl; holdIs = refl; standIs = refl; arrivalsIs = refl; tuplesIs = refl }
-
 pub homes-is : (st : State) → stateView st .net .homes ≡ st .net .homes
 unfolding stateView groundView
 homes-is st = refl
@@ -55,8 +50,8 @@ pub record Long (st : State) : Type 0 where
   pub lines : length (st .lines) ≡ 2560
   pub arrivals : length (st .arrivals) ≡ 256
   pub threads : length (st .threads) ≡ 64
+  pub sound : length (st .sound) ≡ 256
   pub tuples : length (st .tuples) ≡ 1536
-  pub stand : length (st .estimate .stand) ≡ 1536
 
 -- what the invariant gives
 module _ (st : State) (f : Fits st) where
@@ -71,19 +66,6 @@ module _ (st : State) (f : Fits st) where
   unfolding stateView
   tuples-few = omega (arith, rows-long (st .ntuples) (st .tuples), i .tuples-few)
 
-  low-row : (n : ℕ) → n ≤ 32 → (t : List ℕ) → allBelow n t ≡ true → allBelow 32 t ≡ true
-  unfolding allBelow
-  low-row n h t = all-turn (λ x. ltb x n) (λ x. ltb x 32) t (λ x e. lt-ltb x 32 (omega (arith, ltb-lt x n e)))
-
-  sized : length (st .estimate .stand) ≡ 1536 → Sized (st .estimate .nstand) (st .estimate .stand)
-  unfolding stateView groundView estimateView
-  sized long = record {
-    few = omega (arith, rows-long (st .estimate .nstand) (st .estimate .stand), i .stand-few);
-    long = long;
-    alone = i .stand-distinct;
-    low = all-turn (allBelow (st .net .size)) (allBelow 32) (rowsView (st .estimate .nstand) (st .estimate .stand)) (low-row (st .net .size) (i .sites-few)) (i .stand-fit);
-  }
-
   module _ (w : Long st) (k : ℕ) (h : k < st .nthreads) where
     pub thread-here : getElem? (stateView st .threads) k ≡ some (threadView (getD (st .threads) k noThread))
     unfolding stateView
@@ -97,16 +79,21 @@ module _ (st : State) (f : Fits st) where
     unfolding stateView groundView
     thread-placed = omega (arith, thread-ok .placed, i .sites-few)
 
-    pub plannable : Plannable (st .lines) (st .nlines) (st .estimate .stand) (st .estimate .nstand) (st .arrivals) (st .narrivals) (st .tuples) (st .ntuples) (getD (st .threads) k noThread)
+    -- the tables of a state
+    pub tables : Tables (stateView st) (getD (st .threads) k noThread .site .0) (st .lines) (st .nlines) (st .net .boxes) (st .estimate .binds) (st .arrivals) (st .narrivals) (st .sound) (st .tuples) (st .ntuples)
+    unfolding stateView groundView estimateView soundAt
+    tables = record { linesIs = refl; boxesIs = refl; bindsIs = refl; arrivalsIs = refl; soundIs = λ i l. f .sound-is i (getD (st .threads) k noThread .site .0) l (thread-ok .placed); tuplesIs = refl }
+
+    pub plannable : Plannable (st .lines) (st .nlines) (st .arrivals) (st .narrivals) (st .sound) (st .tuples) (st .ntuples) (getD (st .threads) k noThread)
     unfolding stateView
     plannable = record {
       linesLong = w .lines;
       linesFew = lines-few;
       inOrder = i .lines-ordered;
-      sized = sized (w .stand);
       arrivalsLong = w .arrivals;
       arrivalsFew = omega (arith, lines-few, f .arrivals-few);
       arrivalsPresent = λ r e. omega (arith, All-in (i .arrivals-ok) e .present, length-view (st .nlines) (st .lines));
+      setsLong = w .sound;
       tuplesLong = w .tuples;
       tuplesFew = tuples-few;
       threadPresent = omega (arith, thread-ok .present, length-view (st .nlines) (st .lines));
@@ -123,6 +110,7 @@ withThreads st ts = record {
   nlines = st .nlines;
   arrivals = st .arrivals;
   narrivals = st .narrivals;
+  sound = st .sound;
   threads = ts;
   nthreads = st .nthreads;
   tuples = st .tuples;
@@ -176,14 +164,15 @@ stepped-no guarded st k m r next e v a f = record {
 }
 
 -- a step that is not
-pub stepped-yes : (guarded : Bool) (st : State) (k m r : ℕ) (next : State) {e : Event} {new : Spec.State} → Fits st → step guarded (stateView st) k m r ≡ record { answer = gives e; state = new } → stateView next ≡ new → answerView (next .told) ≡ gives e → next .nthreads ≤ 64 → next .own ≤ next .nlines → next .narrivals ≤ next .nlines → Stepped guarded st k m r next
+pub stepped-yes : (guarded : Bool) (st : State) (k m r : ℕ) (next : State) {e : Event} {new : Spec.State} → Fits st → step guarded (stateView st) k m r ≡ record { answer = gives e; state = new } → stateView next ≡ new → answerView (next .told) ≡ gives e → next .nthreads ≤ 64 → next .own ≤ next .nlines → next .narrivals ≤ next .nlines → ((i l : ℕ) → i < next .narrivals → l < next .net .size → mem l (getD (next .sound) i 0) ≡ soundAt next i l) → Stepped guarded st k m r next
 unfolding resultView
-stepped-yes guarded st k m r next f p v a few own less = record {
+stepped-yes guarded st k m r next f p v a few own less sets = record {
   result = ap₂ (λ (x : Answer Event) (s : Spec.State). record { answer = x; state = s }) a v ∙ sym p;
   fits = record {
     threads-few = few;
     own-few = own;
     arrivals-few = less;
+    sound-is = sets;
     invariant = subst Invariant (ap (λ (x : Result). x .state) p ∙ sym v) (step-keeps guarded (stateView st) k m r (f .invariant));
   };
 }
@@ -243,6 +232,7 @@ module _ (guarded : Bool) (st : State) (k m r : ℕ) (f : Fits st) (w : Long st)
     nlines = st .nlines;
     arrivals = st .arrivals;
     narrivals = st .narrivals;
+    sound = st .sound;
     threads = ts;
     nthreads = d .sizes .threads;
     tuples = rows;
@@ -262,8 +252,8 @@ module _ (guarded : Bool) (st : State) (k m r : ℕ) (f : Fits st) (w : Long st)
 
   module _ (z : d .number ≡ 0) (rows : List ℕ) (told : Told) (a : answerView told ≡ gives (cond (d .plan .silent) silent (performed (th .site) (d .plan .target) (d .plan .right)))) (q : rowsView (d .sizes .tuples) rows ≡ tuplesAfter (rowsView (st .ntuples) (st .tuples)) m (d .plan)) where
     performs : (ts : List Thread) → threadsView (d .sizes .threads) ts ≡ splice k (cond (d .sizes .nil) [] (threadView (d .plan .thread) ∷ [])) (threadsView (st .nthreads) (st .threads)) ++ cond (d .sizes .more) (threadView (d .plan .added) ∷ []) [] → Stepped guarded st k m r (behind ts rows told)
-    unfolding stateView
-    performs ts e = stepped-yes guarded st k m r (behind ts rows told) f (step-yes z) (after-view st k m (d .plan) (d .sizes) measured e q) a (room z .0) (f .own-few) (f .arrivals-few)
+    unfolding stateView soundAt
+    performs ts e = stepped-yes guarded st k m r (behind ts rows told) f (step-yes z) (after-view st k m (d .plan) (d .sizes) measured e q) a (room z .0) (f .own-few) (f .arrivals-few) (f .sound-is)
 
     pub performs-alone : (ts : List Thread) → Settled ts → d .sizes .more ≡ false → Stepped guarded st k m r (behind ts rows told)
     performs-alone ts e n =

@@ -185,13 +185,11 @@ fn decide<'a>(
     homes: &'a [u8; 1024],
     boxes: &'a [u8; 1056],
     binds: &'a [u32; 32],
-    hold: &'a [u8; 1024],
-    stand: &'a [u8; 1536],
-    nstand: usize,
     lines: &'a [u8; 2560],
     nlines: usize,
     arrivals: &'a [u8; 256],
     narrivals: usize,
+    sound: &'a [u32; 256],
     tuples: &'a [u8; 1536],
     ntuples: usize,
     nthreads: usize,
@@ -200,19 +198,17 @@ fn decide<'a>(
     m: usize,
     r: usize,
 ) -> Decision
-    requires { ⌜ Plannable (now lines) nlines (now stand) nstand (now arrivals) narrivals (now tuples) ntuples th × (0 < nthreads) × (nthreads ≤ 64) ⌝ }
-    ensures { λ d. ⌜ ((st : Spec.State) → Tables st (now (lines .entry)) nlines (now (boxes .entry)) (now (binds .entry)) (now (hold .entry)) (now (stand .entry)) nstand (now (arrivals .entry)) narrivals (now (tuples .entry)) ntuples → st .net .homes ≡ now (homes .entry) → Decided guarded st nthreads ntuples th m r d) ⌝ }
+    requires { ⌜ Plannable (now lines) nlines (now arrivals) narrivals (now sound) (now tuples) ntuples th × (0 < nthreads) × (nthreads ≤ 64) ⌝ }
+    ensures { λ d. ⌜ ((st : Spec.State) → Tables st (th .site .0) (now (lines .entry)) nlines (now (boxes .entry)) (now (binds .entry)) (now (arrivals .entry)) narrivals (now (sound .entry)) (now (tuples .entry)) ntuples → st .net .homes ≡ now (homes .entry) → Decided guarded st nthreads ntuples th m r d) ⌝ }
 {
     let v = plan::plan(
         lines,
         nlines,
         boxes,
         binds,
-        hold,
-        stand,
-        nstand,
         arrivals,
         narrivals,
+        sound,
         tuples,
         ntuples,
         th,
@@ -244,7 +240,6 @@ pub fn step(state: State, guarded: bool, k: usize, m: usize, r: usize) -> State
         return next;
     }
     let th = next.threads[k];
-    let nstand = next.estimate.nstand;
     let nlines = next.nlines;
     let narrivals = next.narrivals;
     let ntuples = next.ntuples;
@@ -252,13 +247,11 @@ pub fn step(state: State, guarded: bool, k: usize, m: usize, r: usize) -> State
         &next.net.homes,
         &next.net.boxes,
         &next.estimate.binds,
-        &next.estimate.hold,
-        &next.estimate.stand,
-        nstand,
         &next.lines,
         nlines,
         &next.arrivals,
         narrivals,
+        &next.sound,
         &next.tuples,
         ntuples,
         n,

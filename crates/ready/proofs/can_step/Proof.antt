@@ -7,91 +7,68 @@ use Rattle.ready.proofs.Laws.{room-of, tuples-of, more-of, thread-form,
 use borrow.Author.Needs.{needs}
 use Rattle.ready.proofs.can_step.Statement.{statement}
 use Rattle.ready.proofs.can_step.Tie as tie
-use Rattle.ready.proofs.can_step.Reads as reads
-use Rattle.ready.proofs.can_step.Lts as lts
-use Rattle.ready.proofs.has_room.Reads as has-room-reads
-use Rattle.ready.proofs.some_agrees.Reads as some-agrees-reads
-use Rattle.ready.proofs.some_guest.Reads as some-guest-reads
-use Rattle.tables.proofs.action_at.Reads as action-at-reads
 
--- src/lib.rt:161:11
 action-at-requires : tie.Need-action-at-requires
 action-at-requires c κs = search needs
 
--- src/lib.rt:162:24
 enum-told : tie.Need-enum-told
 enum-told c = search needs
 
--- src/lib.rt:163:23
 enum-known-next : tie.Need-enum-known-next
 enum-known-next c = search needs
 
--- src/lib.rt:163:41
 has-room-requires : tie.Need-has-room-requires
 has-room-requires c κs = search needs
 
--- src/lib.rt:164:23
 enum-known-next-2 : tie.Need-enum-known-next-2
 enum-known-next-2 c = search needs
 
--- src/lib.rt:164:33
 has-room-requires-2 : tie.Need-has-room-requires-2
 has-room-requires-2 c κs = search needs
 
--- src/lib.rt:169:14
 enum-told-2 : tie.Need-enum-told-2
 enum-told-2 c = search needs
 
--- src/lib.rt:172:13
 enum-known-target : tie.Need-enum-known-target
 enum-known-target c = search needs
 
--- src/lib.rt:174:14
 some-agrees-requires : tie.Need-some-agrees-requires
 some-agrees-requires c κs =
     let p = c .before .before .before .before .pre .0 in
     let low = low-of (c .before .before .before .action-at .ensures) (c .before .target .given .1) in
     (p .tuplesFew, low .1, p .linesLong, p .tuplesLong, low .0)
 
--- src/lib.rt:177:13
 enum-known-target-2 : tie.Need-enum-known-target-2
 enum-known-target-2 c = search needs
 
--- src/lib.rt:179:14
 some-agrees-requires-2 : tie.Need-some-agrees-requires-2
 some-agrees-requires-2 c κs =
     let p = c .before .before .before .before .pre .0 in
     let low = low-of (c .before .before .before .action-at .ensures) (c .before .target2 .given .1) in
     (p .tuplesFew, low .1, p .linesLong, p .tuplesLong, low .0)
 
--- src/lib.rt:181:13
 enum-known-next-3 : tie.Need-enum-known-next-3
 enum-known-next-3 c = search needs
 
--- src/lib.rt:185:14
 has-room-requires-3 : tie.Need-has-room-requires-3
 has-room-requires-3 c κs = search needs
 
--- src/lib.rt:186:26
 enum-known-next-4 : tie.Need-enum-known-next-4
 enum-known-next-4 c = search needs
 
--- src/lib.rt:186:45
 some-guest-requires : tie.Need-some-guest-requires
 some-guest-requires c κs =
-    let s = c .before .before .before .before .before in
+    let s = c .before .before .before .before in
     let p = s .pre .0 in
-    let nx = next (thread-form p) (c .before .before .before .before .action-at .ensures) (c .before .before .next4 .given .1) in
-    (admits p, s .pre .1, p .threadPlaced, nx .1, nx .0 .form .present, s .pre .2)
+    let nx = next (thread-form p) (c .before .before .before .action-at .ensures) (c .before .next4 .given .1) in
+    (admits p, p .threadPlaced, nx .1, nx .0 .form .present, s .pre .1)
 
--- src/lib.rt:142:1
 returns : tie.Need-returns
 unfolding runs actionLine
 returns c =
     let p = c .before .before .before .pre .0 in
-    ((λ st w k. runs-at p w (c .before .before .action-at .ensures) (c .enum-told .given .1) refl), c .before .before .before .pre .1)
+    λ st w k. runs-at p w (c .before .before .action-at .ensures) (c .enum-told .given .1) refl
 
--- src/lib.rt:142:1
 returns-2 : tie.Need-returns-2
 unfolding runs actionLine
 returns-2 c =
@@ -100,9 +77,8 @@ returns-2 c =
     let d = c .before .before .before .before .action-at .ensures in
     let e = c .before .before .next .given .1 in
     let nx = next (thread-form p) d e in
-    ((λ st w k. runs-at p w d e (room-of w k _ _ (c .has-room .ensures (s .args .n) (nx .0 .form .present) (nx .1 .form .present)))), s .pre .1)
+    λ st w k. runs-at p w d e (room-of w k _ _ (c .has-room .ensures (s .args .n) (nx .0 .form .present) (nx .1 .form .present)))
 
--- src/lib.rt:142:1
 returns-3 : tie.Need-returns-3
 unfolding runs actionLine
 returns-3 c =
@@ -111,16 +87,14 @@ returns-3 c =
     let d = c .before .before .before .before .action-at .ensures in
     let e = c .before .before .next2 .given .1 in
     let nx = next (thread-form p) d e in
-    ((λ st w k. runs-at p w d e (room-of w k _ _ (c .has-room2 .ensures (s .args .n) (p .threadPresent) (nx .0 .form .present)))), s .pre .1)
+    λ st w k. runs-at p w d e (room-of w k _ _ (c .has-room2 .ensures (s .args .n) (p .threadPresent) (nx .0 .form .present)))
 
--- src/lib.rt:142:1
 returns-4 : tie.Need-returns-4
 unfolding runs actionLine
 returns-4 c =
     let p = c .before .before .before .pre .0 in
-    ((λ st w k. runs-at p w (c .before .before .action-at .ensures) (c .enum-told2 .given .1) (more-of w)), c .before .before .before .pre .1)
+    λ st w k. runs-at p w (c .before .before .action-at .ensures) (c .enum-told2 .given .1) (more-of w)
 
--- src/lib.rt:142:1
 returns-5 : tie.Need-returns-5
 unfolding runs actionLine
 returns-5 c =
@@ -128,9 +102,8 @@ returns-5 c =
     let p = s .pre .0 in
     let d = c .before .before .before .before .action-at .ensures in
     let e = c .before .before .target .given .1 in
-    ((λ st w k. runs-at p w d e (tuples-of w _ (c .some-agrees .ensures))), s .pre .1)
+    λ st w k. runs-at p w d e (tuples-of w _ (c .some-agrees .ensures))
 
--- src/lib.rt:142:1
 returns-6 : tie.Need-returns-6
 unfolding runs actionLine
 returns-6 c =
@@ -138,9 +111,8 @@ returns-6 c =
     let p = s .pre .0 in
     let d = c .before .before .before .before .action-at .ensures in
     let e = c .before .before .target2 .given .1 in
-    ((λ st w k. runs-at p w d e (tuples-of w _ (c .some-agrees2 .ensures))), s .pre .1)
+    λ st w k. runs-at p w d e (tuples-of w _ (c .some-agrees2 .ensures))
 
--- src/lib.rt:142:1
 returns-7 : tie.Need-returns-7
 unfolding runs actionLine
 returns-7 c =
@@ -149,16 +121,15 @@ returns-7 c =
     let d = c .before .before .before .before .action-at .ensures in
     let e = c .before .before .next3 .given .1 in
     let nx = next (thread-form p) d e in
-    ((λ st w k. runs-at p w d e (room-of w k _ _ (c .has-room3 .ensures (s .args .n) (nx .0 .form .present) (nx .2 .form .present)))), s .pre .1)
+    λ st w k. runs-at p w d e (room-of w k _ _ (c .has-room3 .ensures (s .args .n) (nx .0 .form .present) (nx .2 .form .present)))
 
--- src/lib.rt:142:1
 returns-8 : tie.Need-returns-8
 unfolding runs actionLine
 returns-8 c =
-    let p = c .before .before .before .before .before .before .pre .0 in
-    let d = c .before .before .before .before .before .action-at .ensures in
-    let e = c .before .before .before .next4 .given .1 in
-    ((λ st w k. runs-at p w d e (c .some-guest .ensures .0 st (guests w) k)), c .some-guest .ensures .1)
+    let p = c .before .before .before .before .before .pre .0 in
+    let d = c .before .before .before .before .action-at .ensures in
+    let e = c .before .before .next4 .given .1 in
+    λ st w k. runs-at p w d e (c .some-guest .ensures st (guests w) k)
 
 pub can-step-spec : {M : Type 1} → statement M
 can-step-spec =

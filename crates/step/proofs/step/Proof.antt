@@ -6,6 +6,7 @@ use borrow.Author.Needs.{needs, length-unmapped}
 use lib.ListN.{length, set, length-set}
 use Rattle.threads.proofs.Splice.{length-mapped}
 use Rattle.state.specs.View.{stateView}
+use Rattle.state.specs.Fits.{soundAt}
 use Rattle.step.proofs.Steps.{Long, withThreads, no-thread, tables, homes-is, lines-few, tuples-few, plannable, stepped-no, step-no, room, settled-gone, settled-stays, left-room, performs-alone, performs-more}
 use Rattle.state.specs.declared.State.{State}
 use Rattle.plan.specs.Move.{tuplesAfter}
@@ -20,21 +21,21 @@ long c =
     record {
       lines = length-unmapped ℕ (st .lines) 2560 (c .good .0 .1 .1 .1 .1 .1 .0 .1 .0 .1);
       arrivals = length-unmapped ℕ (st .arrivals) 256 (c .good .0 .1 .1 .1 .1 .1 .1 .1 .0 .1 .0 .1);
-      threads = length-mapped _ (st .threads) 64 (c .good .0 .1 .1 .1 .1 .1 .1 .1 .1 .1 .0 .1 .0 .1);
-      tuples = length-unmapped ℕ (st .tuples) 1536 (c .good .0 .1 .1 .1 .1 .1 .1 .1 .1 .1 .1 .1 .0 .1 .0 .1);
-      stand = length-unmapped ℕ (st .estimate .stand) 1536 (c .good .0 .1 .1 .1 .1 .0 .1 .1 .1 .0 .1 .0 .1);
+      sound = length-unmapped ℕ (st .sound) 256 (c .good .0 .1 .1 .1 .1 .1 .1 .1 .1 .1 .0 .1 .0 .1);
+      threads = length-mapped _ (st .threads) 64 (c .good .0 .1 .1 .1 .1 .1 .1 .1 .1 .1 .1 .0 .1 .0 .1);
+      tuples = length-unmapped ℕ (st .tuples) 1536 (c .good .0 .1 .1 .1 .1 .1 .1 .1 .1 .1 .1 .1 .1 .0 .1 .0 .1);
     }
 
 refused-requires : tie.Need-refused-requires
 refused-requires c κs = search needs
 
 returns : tie.Need-returns
-unfolding stateView
+unfolding stateView soundAt
 returns c =
     let s = c .before .before in
     let ar = s .args in
     let st = ar .state in
-    stepped-no (ar .guarded) st (ar .k) (ar .m) (ar .r) _ (no-thread (ar .guarded) st (ar .k) (ar .m) (ar .r) (c .before .if1 .taken) (omega (arith, long s .threads, s .pre .threads-few))) refl (c .refused .ensures) (record { threads-few = s .pre .threads-few; own-few = s .pre .own-few; arrivals-few = s .pre .arrivals-few; invariant = s .pre .invariant })
+    stepped-no (ar .guarded) st (ar .k) (ar .m) (ar .r) _ (no-thread (ar .guarded) st (ar .k) (ar .m) (ar .r) (c .before .if1 .taken) (omega (arith, long s .threads, s .pre .threads-few))) refl (c .refused .ensures) (record { threads-few = s .pre .threads-few; own-few = s .pre .own-few; arrivals-few = s .pre .arrivals-few; sound-is = s .pre .sound-is; invariant = s .pre .invariant })
 
 mul-th : tie.Need-mul-th
 mul-th c = search needs
@@ -44,34 +45,34 @@ element-copy-out-th c = search needs
 
 decide-requires : tie.Need-decide-requires
 decide-requires c κs =
-    let s = c .before .before .before .before .before .before .before .before .before .before .before in
+    let s = c .before .before .before .before .before .before .before .before .before .before in
     let ar = s .args in
     let st = ar .state in
-    let h : ar .k < st .nthreads = c .before .before .before .before .before .before .before .before .before .before .if1 .left in
+    let h : ar .k < st .nthreads = c .before .before .before .before .before .before .before .before .before .if1 .left in
     (plannable st (s .pre) (long s) (ar .k) h, omega (arith, h), s .pre .threads-few)
 
 refused-requires-2 : tie.Need-refused-requires-2
 refused-requires-2 c κs = search needs
 
 returns-2 : tie.Need-returns-2
-unfolding stateView
+unfolding stateView soundAt
 returns-2 c =
-    let s = c .before .before .before .before .before .before .before .before .before .before .before .before .before .before in
+    let s = c .before .before .before .before .before .before .before .before .before .before .before .before .before in
     let ar = s .args in
     let st = ar .state in
-    let h : ar .k < st .nthreads = c .before .before .before .before .before .before .before .before .before .before .before .before .before .if1 .left in
+    let h : ar .k < st .nthreads = c .before .before .before .before .before .before .before .before .before .before .before .before .if1 .left in
     let d = c .before .before .decide .result in
-    let o = c .before .before .decide .ensures (stateView st) (tables st) (homes-is st) in
-    stepped-no (ar .guarded) st (ar .k) (ar .m) (ar .r) _ (step-no (ar .guarded) st (ar .k) (ar .m) (ar .r) (s .pre) (long s) h d o (c .before .if2 .taken)) refl (c .refused2 .ensures) (record { threads-few = s .pre .threads-few; own-few = s .pre .own-few; arrivals-few = s .pre .arrivals-few; invariant = s .pre .invariant })
+    let o = c .before .before .decide .ensures (stateView st) (tables st (s .pre) (long s) (ar .k) h) (homes-is st) in
+    stepped-no (ar .guarded) st (ar .k) (ar .m) (ar .r) _ (step-no (ar .guarded) st (ar .k) (ar .m) (ar .r) (s .pre) (long s) h d o (c .before .if2 .taken)) refl (c .refused2 .ensures) (record { threads-few = s .pre .threads-few; own-few = s .pre .own-few; arrivals-few = s .pre .arrivals-few; sound-is = s .pre .sound-is; invariant = s .pre .invariant })
 
 change-tuples-requires : tie.Need-change-tuples-requires
 change-tuples-requires c κs =
-    let s = c .before .before .before .before .before .before .before .before .before .before .before .before .before .before .before .before .before in
+    let s = c .before .before .before .before .before .before .before .before .before .before .before .before .before .before .before .before in
     let ar = s .args in
     let st = ar .state in
-    let h : ar .k < st .nthreads = c .before .before .before .before .before .before .before .before .before .before .before .before .before .before .before .before .if1 .left in
+    let h : ar .k < st .nthreads = c .before .before .before .before .before .before .before .before .before .before .before .before .before .before .before .if1 .left in
     let d = c .before .before .before .before .before .decide .result in
-    let o = c .before .before .before .before .before .decide .ensures (stateView st) (tables st) (homes-is st) in
+    let o = c .before .before .before .before .before .decide .ensures (stateView st) (tables st (s .pre) (long s) (ar .k) h) (homes-is st) in
     let t = room (ar .guarded) st (ar .k) (ar .m) (ar .r) (s .pre) (long s) h d o (c .before .before .before .before .if2 .left) .1 in
     (tuples-few st (s .pre), omega (arith, o .measured .tuplesIs, t), o .taken, long s .tuples)
 
@@ -80,59 +81,59 @@ stepped-requires c κs = search needs
 
 remove-requires : tie.Need-remove-requires
 remove-requires c κs =
-    let s = c .before .before .before .before .before .before .before .before .before .before .before .before .before .before .before .before .before .before .before .before .before .before in
+    let s = c .before .before .before .before .before .before .before .before .before .before .before .before .before .before .before .before .before .before .before .before .before in
     let ar = s .args in
     let st = ar .state in
-    let h : ar .k < st .nthreads = c .before .before .before .before .before .before .before .before .before .before .before .before .before .before .before .before .before .before .before .before .before .if1 .left in
+    let h : ar .k < st .nthreads = c .before .before .before .before .before .before .before .before .before .before .before .before .before .before .before .before .before .before .before .before .if1 .left in
     (h, s .pre .threads-few)
 
 mul-moved : tie.Need-mul-moved
 mul-moved c =
-    let s = c .before .before .before .before .before .before .before .before .before .before .before .before .before .before .before .before .before .before .before .before .before .before in
+    let s = c .before .before .before .before .before .before .before .before .before .before .before .before .before .before .before .before .before .before .before .before .before in
     let ar = s .args in
     let st = ar .state in
-    let h : ar .k < st .nthreads = c .before .before .before .before .before .before .before .before .before .before .before .before .before .before .before .before .before .before .before .before .before .if1 .left in
+    let h : ar .k < st .nthreads = c .before .before .before .before .before .before .before .before .before .before .before .before .before .before .before .before .before .before .before .before .if1 .left in
     omega (arith, h, s .pre .threads-few)
 
 element-set-from-moved : tie.Need-element-set-from-moved
 element-set-from-moved c =
-    let s = c .before .before .before .before .before .before .before .before .before .before .before .before .before .before .before .before .before .before .before .before .before .before in
+    let s = c .before .before .before .before .before .before .before .before .before .before .before .before .before .before .before .before .before .before .before .before .before in
     let ar = s .args in
     let st = ar .state in
-    let h : ar .k < st .nthreads = c .before .before .before .before .before .before .before .before .before .before .before .before .before .before .before .before .before .before .before .before .before .if1 .left in
+    let h : ar .k < st .nthreads = c .before .before .before .before .before .before .before .before .before .before .before .before .before .before .before .before .before .before .before .before .if1 .left in
     omega (arith, h, s .pre .threads-few)
 
 mul-added : tie.Need-mul-added
 mul-added c =
-    let s = c .before .before .before .before .before .before .before .before .before .before .before .before .before .before .before .before .before .before .before .before .before .before .before in
+    let s = c .before .before .before .before .before .before .before .before .before .before .before .before .before .before .before .before .before .before .before .before .before .before in
     let ar = s .args in
     let st = ar .state in
-    let h : ar .k < st .nthreads = c .before .before .before .before .before .before .before .before .before .before .before .before .before .before .before .before .before .before .before .before .before .before .if1 .left in
+    let h : ar .k < st .nthreads = c .before .before .before .before .before .before .before .before .before .before .before .before .before .before .before .before .before .before .before .before .before .if1 .left in
     let d = c .before .before .before .before .before .before .before .before .before .before .before .decide .result in
-    let o = c .before .before .before .before .before .before .before .before .before .before .before .decide .ensures (stateView st) (tables st) (homes-is st) in
+    let o = c .before .before .before .before .before .before .before .before .before .before .before .decide .ensures (stateView st) (tables st (s .pre) (long s) (ar .k) h) (homes-is st) in
     let f : d .sizes .left < 64 = left-room (ar .guarded) st (ar .k) (ar .m) (ar .r) (s .pre) (long s) h d o (c .before .before .before .before .before .before .before .before .before .before .if2 .left) (c .before .if4 .taken) in
     omega (arith, f)
 
 element-set-from-added : tie.Need-element-set-from-added
 element-set-from-added c =
-    let s = c .before .before .before .before .before .before .before .before .before .before .before .before .before .before .before .before .before .before .before .before .before .before .before in
+    let s = c .before .before .before .before .before .before .before .before .before .before .before .before .before .before .before .before .before .before .before .before .before .before in
     let ar = s .args in
     let st = ar .state in
-    let h : ar .k < st .nthreads = c .before .before .before .before .before .before .before .before .before .before .before .before .before .before .before .before .before .before .before .before .before .before .if1 .left in
+    let h : ar .k < st .nthreads = c .before .before .before .before .before .before .before .before .before .before .before .before .before .before .before .before .before .before .before .before .before .if1 .left in
     let d = c .before .before .before .before .before .before .before .before .before .before .before .decide .result in
-    let o = c .before .before .before .before .before .before .before .before .before .before .before .decide .ensures (stateView st) (tables st) (homes-is st) in
+    let o = c .before .before .before .before .before .before .before .before .before .before .before .decide .ensures (stateView st) (tables st (s .pre) (long s) (ar .k) h) (homes-is st) in
     let f : d .sizes .left < 64 = left-room (ar .guarded) st (ar .k) (ar .m) (ar .r) (s .pre) (long s) h d o (c .before .before .before .before .before .before .before .before .before .before .if2 .left) (c .before .if4 .taken) in
     omega (arith, f)
 
 returns-3 : tie.Need-returns-3
 unfolding tuplesAfter
 returns-3 c =
-    let s = c .before .before .before .before .before .before .before .before .before .before .before .before .before .before .before .before .before .before .before .before .before .before .before in
+    let s = c .before .before .before .before .before .before .before .before .before .before .before .before .before .before .before .before .before .before .before .before .before .before in
     let ar = s .args in
     let st = ar .state in
-    let h : ar .k < st .nthreads = c .before .before .before .before .before .before .before .before .before .before .before .before .before .before .before .before .before .before .before .before .before .before .if1 .left in
+    let h : ar .k < st .nthreads = c .before .before .before .before .before .before .before .before .before .before .before .before .before .before .before .before .before .before .before .before .before .if1 .left in
     let d = c .before .before .before .before .before .before .before .before .before .before .before .decide .result in
-    let o = c .before .before .before .before .before .before .before .before .before .before .before .decide .ensures (stateView st) (tables st) (homes-is st) in
+    let o = c .before .before .before .before .before .before .before .before .before .before .before .decide .ensures (stateView st) (tables st (s .pre) (long s) (ar .k) h) (homes-is st) in
     let z = c .before .before .before .before .before .before .before .before .before .before .if2 .left in
     let t = c .before .before .before .before .before .change-tuples in
     let e = c .before .before .before .stepped in
@@ -145,12 +146,12 @@ returns-3 c =
 returns-4 : tie.Need-returns-4
 unfolding tuplesAfter
 returns-4 c =
-    let s = c .before .before .before .before .before .before .before .before .before .before .before .before .before .before .before .before .before .before .before .before .before .before in
+    let s = c .before .before .before .before .before .before .before .before .before .before .before .before .before .before .before .before .before .before .before .before .before in
     let ar = s .args in
     let st = ar .state in
-    let h : ar .k < st .nthreads = c .before .before .before .before .before .before .before .before .before .before .before .before .before .before .before .before .before .before .before .before .before .if1 .left in
+    let h : ar .k < st .nthreads = c .before .before .before .before .before .before .before .before .before .before .before .before .before .before .before .before .before .before .before .before .if1 .left in
     let d = c .before .before .before .before .before .before .before .before .before .before .decide .result in
-    let o = c .before .before .before .before .before .before .before .before .before .before .decide .ensures (stateView st) (tables st) (homes-is st) in
+    let o = c .before .before .before .before .before .before .before .before .before .before .decide .ensures (stateView st) (tables st (s .pre) (long s) (ar .k) h) (homes-is st) in
     let z = c .before .before .before .before .before .before .before .before .before .if2 .left in
     let t = c .before .before .before .before .change-tuples in
     let e = c .before .before .stepped in
