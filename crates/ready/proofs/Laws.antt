@@ -6,7 +6,7 @@ use mathlib.Core.List.{List, [], _∷_}
 use mathlib.Core.Option.{none, some}
 use Prim.Native.Nat.{ℕ, zero, suc, _+_, _*_, _<_, _≤_}
 use native.Mathlib.Omega.{arith}
-use native.Mathlib.Nat.{add-zero}
+use native.Mathlib.Nat.{add-zero, zero-add}
 use native.Mathlib.Decide.{ℕ-discrete}
 use borrow.Author.Tests.{eq-eqb, ne-eqb, le-ltb}
 use lib.Dec.{eqb, ltb}
@@ -36,7 +36,9 @@ use Rattle.state.specs.declared.State.{State}
 use Rattle.state.specs.View.{groundView, stateView}
 use Rattle.state.specs.Fits.{soundAt, Fits}
 use Rattle.plan.specs.Move.{Tables, Plannable, Guests, Admits}
+use Rattle.ready.specs.declared.World.{World}
 use Rattle.ready.specs.Runs.{standing, room, welcome, runs}
+use Rattle.ready.specs.Scan.{firstOf, placeOf, stepsIn, Serves, Testable, AllTestable, Found}
 use Rattle.ready.proofs.Runnable.{From, runnable-is, lowest-start, lowest-here, lowest-later, lowest-end}
 
 -- a line of kind 0 is `nil`, and no other
@@ -167,26 +169,52 @@ module _ {lines : List ℕ} {n : ℕ} {arrivals : List ℕ} {narrivals : ℕ} {s
       ∙ sym (d .line)
       ∙ ap (λ (x : Action). actionLine x (fieldBytes lines (th .line))) e))
 
--- the lowest thread that can make a step, thread by thread
-module _ (st : Spec.State) (items : List Thread) (count : ℕ) (e : st .threads ≡ threadsView count items) (long : count ≤ length items) where
-  pub ready-start : ready st ≡ least (keep (runnable st) (From count 0))
+-- the lowest thread that can make a step is the first one that passes the test
+module _ (f : ℕ → Bool) (n : ℕ) where
+  place-here : (j : ℕ) → j < n → placeOf j n ≡ some j
+  unfolding placeOf
+  place-here j h = rw (lt-ltb j n h)
+
+  place-none : (j : ℕ) → n ≤ j → placeOf j n ≡ none
+  unfolding placeOf
+  place-none j h = rw (le-ltb j n h)
+
+  first-one : (b : Bool) (m j : ℕ) → j < n → f j ≡ b → least (keep f (From n (suc j))) ≡ placeOf (suc j + m) n → least (keep f (From n j)) ≡ placeOf (j + cond b zero (suc m)) n
+  first-one true m j h e r = lowest-here f n j h e ∙ sym (ap (λ (x : ℕ). placeOf x n) (add-zero j) ∙ place-here j h)
+  first-one false m j h e r = let q : suc j + m ≡ j + suc m = omega arith in lowest-later f n j h e (suc j) refl ∙ r ∙ ap (λ (x : ℕ). placeOf x n) q
+
+  lowest-first : (g : Thread → Bool) (ts : List Thread) (j : ℕ) → length ts + j ≡ n → ((i : ℕ) → i < length ts → f (j + i) ≡ g (getD ts i noThread)) → least (keep f (From n j)) ≡ placeOf (j + firstOf g ts) n
+  unfolding firstOf
+  lowest-first g [] j e h = lowest-end f n j (omega arith) ∙ sym (ap (λ (x : ℕ). placeOf x n) (add-zero j) ∙ place-none j (omega arith))
+  lowest-first g (th ∷ ts) j e h =
+      first-one (g th) (firstOf g ts) j (omega arith) (ap f (sym (add-zero j)) ∙ h 0 (omega arith))
+      (lowest-first g ts (suc j) (omega arith) (λ i l. let q : suc j + i ≡ j + suc i = omega arith in ap f q ∙ h (suc i) (omega arith)))
+
+module _ (st : Spec.State) (inv : Invariant st) (w : World) (s : Serves st w) (items : List Thread) (n : ℕ) (e : st .threads ≡ threadsView n items) (long : n ≤ length items) where
+  taken : length (take n items) ≡ n
+  taken = length-take-le n items long
+
+  thread-at : (i : ℕ) → i < n → getElem? (st .threads) i ≡ some (threadView (getD (take n items) i noThread))
+  thread-at i h =
+      ap (λ (xs : List Spec.Thread). getElem? xs i) e
+      ∙ thread-some n items i h long
+      ∙ ap (λ (th : Thread). some (threadView th)) (sym (getD-take n items i noThread h))
+
+  tests-is : (i : ℕ) → i < n → runnable st i ≡ stepsIn st (getD (take n items) i noThread)
+  unfolding stepsIn
+  tests-is i h = runnable-is st inv i (threadView (getD (take n items) i noThread)) (thread-at i h)
+
+  pub ready-is : (k : ℕ) → Found w (take n items) k → placeOf k n ≡ ready st
   unfolding ready
-  ready-start =
-      ap (λ (n : ℕ). least (keep (runnable st) (below n))) (ap length e ∙ threads-long count items long)
-      ∙ lowest-start (runnable st) count
-
-  pub ready-none : (k : ℕ) → ready st ≡ least (keep (runnable st) (From count k)) → count ≤ k → none ≡ ready st
-  ready-none k q h = sym (q ∙ lowest-end (runnable st) count k h)
-
-  module _ (inv : Invariant st) (k : ℕ) (h : k < count) (th : Thread) (t : th ≡ getD items k noThread) {b : Bool} (r : b ≡ runs st (threadView th) (lineAt (st .lines) (th .line))) (q : ready st ≡ least (keep (runnable st) (From count k))) where
-    here-runs : runnable st k ≡ b
-    here-runs = runnable-is st inv k (threadView th) (ap (λ (xs : List Spec.Thread). getElem? xs k) e ∙ thread-some count items k h long ∙ ap (λ (x : Thread). some (threadView x)) (sym t)) ∙ sym r
-
-    pub ready-here : b ≡ true → some k ≡ ready st
-    ready-here y = sym (q ∙ lowest-here (runnable st) count k h (here-runs ∙ y))
-
-    pub ready-later : b ≡ false → (j : ℕ) → suc k ≡ j → ready st ≡ least (keep (runnable st) (From count j))
-    ready-later y j s = q ∙ lowest-later (runnable st) count k h (here-runs ∙ y) j s
+  ready-is k r =
+      let first : k ≡ firstOf (stepsIn st) (take n items) = r .found st s (λ i h. let l : i < n = omega (arith, taken) in All-get i (inv .threads-ok) (thread-at i l) .placed) in
+      let count : length (st .threads) ≡ n = ap length e ∙ threads-long n items long in
+      let whole : length (take n items) + 0 ≡ n = omega (arith, taken) in
+      sym
+      (ap (λ (m : ℕ). least (keep (runnable st) (below m))) count
+      ∙ lowest-start (runnable st) n
+      ∙ lowest-first (runnable st) n (stepsIn st) (take n items) 0 whole (λ i h. let l : i < n = omega (arith, taken) in ap (runnable st) (zero-add i) ∙ tests-is i l)
+      ∙ ap (λ (x : ℕ). placeOf x n) (zero-add (firstOf (stepsIn st) (take n items)) ∙ sym first))
 
 -- the tables of a state by value, and what its invariant gives of them
 module _ {st : State} (f : Fits st) where
@@ -218,10 +246,7 @@ module _ {st : State} (f : Fits st) where
       unfolding stateView groundView
       thread-ok = All-get k (f .invariant .threads-ok) (thread-some (st .nthreads) (st .threads) k h (omega (arith, long-threads, f .threads-few)))
 
-      pub fits-tables : Tables (stateView st) (getD (st .threads) k noThread .site .0) (st .lines) (st .nlines) (st .net .boxes) (st .estimate .binds) (st .arrivals) (st .narrivals) (st .sound) (st .tuples) (st .ntuples)
-      fits-tables = tables (getD (st .threads) k noThread .site .0) (thread-ok .placed)
-
-      pub fits-thread : length (st .tuples) ≡ 1536 → Plannable (st .lines) (st .nlines) (st .arrivals) (st .narrivals) (st .sound) (st .tuples) (st .ntuples) (getD (st .threads) k noThread)
+      fits-thread : length (st .tuples) ≡ 1536 → Plannable (st .lines) (st .nlines) (st .arrivals) (st .narrivals) (st .sound) (st .tuples) (st .ntuples) (getD (st .threads) k noThread)
       unfolding stateView
       fits-thread long-tuples =
           let v = f .invariant in
@@ -239,6 +264,36 @@ module _ {st : State} (f : Fits st) where
             threadPresent = omega (arith, thread-ok .present, length-view (st .nlines) (st .lines));
             threadPlaced = omega (arith, thread-ok .placed, fits-size);
           }
+
+-- what ready reads of a state
+abbrev pub worldOf : State → World
+worldOf st = record {
+  lines = st .lines;
+  nlines = st .nlines;
+  boxes = st .net .boxes;
+  binds = st .estimate .binds;
+  arrivals = st .arrivals;
+  narrivals = st .narrivals;
+  sound = st .sound;
+  tuples = st .tuples;
+  ntuples = st .ntuples;
+  nthreads = st .nthreads;
+}
+
+module _ {st : State} (f : Fits st) (long-threads : length (st .threads) ≡ 64) where
+  few : st .nthreads ≤ length (st .threads)
+  few = omega (arith, long-threads, f .threads-few)
+
+  pub fits-testable : length (st .lines) ≡ 2560 → length (st .arrivals) ≡ 256 → length (st .sound) ≡ 256 → length (st .tuples) ≡ 1536 → AllTestable (worldOf st) (take (st .nthreads) (st .threads))
+  fits-testable lines arrivals sound tuples = record {
+    each = λ k h.
+        let l : k < st .nthreads = omega (arith, length-take-le (st .nthreads) (st .threads) few) in
+        subst (Testable (worldOf st)) (sym (getD-take (st .nthreads) (st .threads) k noThread l)) (record { plannable = fits-thread f lines arrivals sound long-threads k l tuples; few = f .threads-few });
+  }
+
+  pub fits-ready : (k : ℕ) → Found (worldOf st) (take (st .nthreads) (st .threads)) k → placeOf k (st .nthreads) ≡ ready (stateView st)
+  unfolding stateView groundView
+  fits-ready = ready-is (stateView st) (f .invariant) (worldOf st) (record { tables = tables f; threads = threads-long (st .nthreads) (st .threads) few }) (st .threads) (st .nthreads) refl few
 
 -- the door called by itself, test by test
 module _ (st : Spec.State) (r l d : ℕ) {b : Bool} (e : b ≡ among (st .arrivals) r) where

@@ -7,15 +7,15 @@ ghost use Rattle.sets.specs.Lists.{_&_, any};
 ghost use Rattle.klaim.specs.Process.{lineAt, tree};
 ghost use Rattle.klaim.specs.Report.{door as doorOf};
 ghost use Rattle.klaim.specs.State as Spec;
-ghost use Rattle.klaim.specs.Invariant.{Invariant};
 ghost use Rattle.klaim.specs.Engine.{agrees as agreesOf, doorAlone, ready as readyOf};
 ghost use Rattle.tables.specs.View.{linesView, rowsView, slotOf, fieldBytes, LowLoc};
-ghost use Rattle.threads.specs.View.{noThread, threadView, threadsView};
+ghost use Rattle.threads.specs.View.{threadView};
 ghost use Rattle.plan.specs.Move.{Tables, Plannable, Guests, Admits};
 ghost use Rattle.state.specs.View.{stateView};
 ghost use Rattle.state.specs.Fits.{Fits};
 ghost use Rattle.ready.specs.Runs.{standing, room as roomOf, welcome, runs as runsOf};
 ghost use Rattle.ready.specs.View.{doorView, readyView};
+ghost use Rattle.ready.specs.Scan.{Testable, AllTestable, Tested, Found, placeOf};
 use klaim::Loc;
 use state::State;
 use tables::Action;
@@ -206,42 +206,74 @@ fn can_step<'a>(
     }
 }
 
-// The lowest of `count` threads that can make a bare step.
-fn first_ready<'a>(
-    lines: &'a [u8; 2560],
-    n: usize,
-    boxes: &'a [u8; 1056],
-    binds: &'a [u32; 32],
-    arrivals: &'a [u8; 256],
-    narrivals: usize,
-    sound: &'a [u32; 256],
-    tuples: &'a [u8; 1536],
-    ntuples: usize,
-    items: [Thread; 64],
-    count: usize,
-) -> ReadyAnswer
-    requires { ⌜ ((k : ℕ) → k < count → Plannable (now lines) n (now arrivals) narrivals (now sound) (now tuples) ntuples (getD items k noThread)) × (count ≤ 64) ⌝ }
-    ensures { λ r. ⌜ ((st : Spec.State) → ((k : ℕ) → k < count → Tables st (getD items k noThread .site .0) (now (lines .entry)) n (now (boxes .entry)) (now (binds .entry)) (now (arrivals .entry)) narrivals (now (sound .entry)) (now (tuples .entry)) ntuples) → st .threads ≡ threadsView count items → Invariant st → readyView r ≡ readyOf st) ⌝ }
+// What the test of a thread reads beside it: the tables, and how many threads there are.
+pub struct World {
+    pub lines: [u8; 2560],
+    pub nlines: usize,
+    pub boxes: [u8; 1056],
+    pub binds: [u32; 32],
+    pub arrivals: [u8; 256],
+    pub narrivals: usize,
+    pub sound: [u32; 256],
+    pub tuples: [u8; 1536],
+    pub ntuples: usize,
+    pub nthreads: usize,
+}
+
+// Whether thread th can make a bare step.
+fn able(th: Thread, w: World) -> bool
+    requires { ⌜ Testable w th ⌝ }
+    ensures { λ r. ⌜ Tested w th r ⌝ }
+{
+    let n = w.nlines;
+    let narrivals = w.narrivals;
+    let ntuples = w.ntuples;
+    let count = w.nthreads;
+    can_step(
+        &w.lines,
+        n,
+        &w.boxes,
+        &w.binds,
+        &w.arrivals,
+        narrivals,
+        &w.sound,
+        &w.tuples,
+        ntuples,
+        count,
+        th,
+    )
+}
+
+// The lowest place of a thread that can make a bare step, or how many there are.
+fn first(ts: &[Thread], w: World) -> usize
+    requires { ⌜ AllTestable w (now ts) ⌝ }
+    ensures { λ r. ⌜ Found w (now (ts .entry)) r ⌝ }
 {
     let mut k: usize = 0;
-    while k < count {
-        let th = items[k];
-        if can_step(
-            lines,
-            n,
-            boxes,
-            binds,
-            arrivals,
-            narrivals,
-            sound,
-            tuples,
-            ntuples,
-            count,
-            th,
-        ) {
-            return ReadyAnswer::Place(k as u8);
+    while k < ts.len() {
+        if able(ts[k], w) {
+            return k;
         }
         k += 1;
+    }
+    k
+}
+
+// That of the first n threads of an array.
+fn lowest(items: [Thread; 64], n: usize, w: World) -> usize
+    requires { ⌜ (n ≤ 64) × AllTestable w (take n items) ⌝ }
+    ensures { λ r. ⌜ Found w (take n items) r ⌝ }
+{
+    first(&items[..n], w)
+}
+
+// Place k of n, or none.
+fn place_of(k: usize, n: usize) -> ReadyAnswer
+    requires { ⌜ n ≤ 64 ⌝ }
+    ensures { λ r. ⌜ readyView r ≡ placeOf k n ⌝ }
+{
+    if k < n {
+        return ReadyAnswer::Place(k as u8);
     }
     ReadyAnswer::None
 }
@@ -251,24 +283,28 @@ pub fn ready(state: State) -> ReadyAnswer
     requires { ⌜ Fits state ⌝ }
     ensures { λ r. ⌜ readyView r ≡ readyOf (stateView state) ⌝ }
 {
-    let n = state.nlines;
-    let narrivals = state.narrivals;
-    let ntuples = state.ntuples;
+    let lines = state.lines;
+    let boxes = state.net.boxes;
+    let binds = state.estimate.binds;
+    let arrivals = state.arrivals;
+    let sound = state.sound;
+    let tuples = state.tuples;
     let items = state.threads;
-    let count = state.nthreads;
-    first_ready(
-        &state.lines,
-        n,
-        &state.net.boxes,
-        &state.estimate.binds,
-        &state.arrivals,
-        narrivals,
-        &state.sound,
-        &state.tuples,
-        ntuples,
-        items,
-        count,
-    )
+    let n = state.nthreads;
+    let w = World {
+        lines,
+        nlines: state.nlines,
+        boxes,
+        binds,
+        arrivals,
+        narrivals: state.narrivals,
+        sound,
+        tuples,
+        ntuples: state.ntuples,
+        nthreads: n,
+    };
+    let k = lowest(items, n, w);
+    place_of(k, n)
 }
 
 // The door for the arrival whose root is line r, at site l of `size` sites, under sandbox d.

@@ -1,37 +1,40 @@
-use mathlib.Core.Path.{_≡_, refl}
+use mathlib.Core.Path.{_≡_, _∙_}
+use Prim.Native.Nat.{ℕ}
 use lib.ListN.{length}
 use Rattle.threads.proofs.Splice.{length-mapped}
-use Rattle.state.specs.View.{stateView}
-use Rattle.ready.proofs.Laws.{fits-tables, fits-thread}
-use borrow.Author.Needs.{needs}
+use Rattle.ready.proofs.Laws.{fits-testable, fits-ready}
+use borrow.Author.Needs.{needs, length-unmapped}
 use Rattle.ready.proofs.ready.Statement.{statement}
 use Rattle.ready.proofs.ready.Tie as tie
 
-lines-long : (c : tie.Start) → length (c .args .t1 .lines) ≡ 2560
-lines-long c = search needs
+-- the arrays have their lengths
+lines-long : (c : tie.Start) → length (c .args .state .lines) ≡ 2560
+lines-long c = length-unmapped ℕ (c .args .state .lines) 2560 (c .good .0 .1 .1 .1 .1 .1 .0 .1 .0 .1)
 
-sound-long : (c : tie.Start) → length (c .args .t1 .sound) ≡ 256
-sound-long c = search needs
+arrivals-long : (c : tie.Start) → length (c .args .state .arrivals) ≡ 256
+arrivals-long c = length-unmapped ℕ (c .args .state .arrivals) 256 (c .good .0 .1 .1 .1 .1 .1 .1 .1 .0 .1 .0 .1)
 
-arrivals-long : (c : tie.Start) → length (c .args .t1 .arrivals) ≡ 256
-arrivals-long c = search needs
+sound-long : (c : tie.Start) → length (c .args .state .sound) ≡ 256
+sound-long c = length-unmapped ℕ (c .args .state .sound) 256 (c .good .0 .1 .1 .1 .1 .1 .1 .1 .1 .1 .0 .1 .0 .1)
 
-tuples-long : (c : tie.Start) → length (c .args .t1 .tuples) ≡ 1536
-tuples-long c = search needs
+threads-long : (c : tie.Start) → length (c .args .state .threads) ≡ 64
+threads-long c = length-mapped _ (c .args .state .threads) 64 (c .good .0 .1 .1 .1 .1 .1 .1 .1 .1 .1 .1 .0 .1 .0 .1)
 
-threads-long : (c : tie.Start) → length (c .args .t1 .threads) ≡ 64
-threads-long c = search length-mapped
+tuples-long : (c : tie.Start) → length (c .args .state .tuples) ≡ 1536
+tuples-long c = length-unmapped ℕ (c .args .state .tuples) 1536 (c .good .0 .1 .1 .1 .1 .1 .1 .1 .1 .1 .1 .1 .1 .0 .1 .0 .1)
 
-first-ready-requires : tie.Need-first-ready-requires
-first-ready-requires c κs =
-    let s = c .before .before .before .before .before .before .before .before in
-    ((λ k h. fits-thread (s .pre) (lines-long s) (arrivals-long s) (sound-long s) (threads-long s) k h (tuples-long s)), s .pre .threads-few)
+lowest-requires : tie.Need-lowest-requires
+lowest-requires c κs =
+    let s = c .before .before .before .before .before .before .before in
+    (s .pre .threads-few, fits-testable (s .pre) (threads-long s) (lines-long s) (arrivals-long s) (sound-long s) (tuples-long s))
+
+place-of-requires : tie.Need-place-of-requires
+place-of-requires c κs = c .before .before .before .before .before .before .before .before .pre .threads-few
 
 returns : tie.Need-returns
-unfolding stateView
 returns c =
     let s = c .before .before .before .before .before .before .before .before .before in
-    c .first-ready .ensures (stateView (s .args .t1)) (fits-tables (s .pre) (lines-long s) (arrivals-long s) (sound-long s) (threads-long s)) refl (s .pre .invariant)
+    c .place-of .ensures ∙ fits-ready (s .pre) (threads-long s) (c .before .lowest .result) (c .before .lowest .ensures)
 
 pub ready-spec : {M : Type 1} → statement M
-ready-spec = tie.close (tie.spec first-ready-requires returns)
+ready-spec = tie.close (tie.spec lowest-requires place-of-requires returns)
