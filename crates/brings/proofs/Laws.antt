@@ -19,7 +19,7 @@ use Rattle.klaim.specs.Process.{Line, Nil, lineAt, move, ordered, tree}
 use Rattle.klaim.specs.Net.{Net, Estimate}
 use Rattle.klaim.specs.Reader.{refused, gives, readArrival}
 use Rattle.klaim.specs.Engine.{Result, brought, joined, bringRead, bring}
-use Rattle.klaim.specs.Invariant.{allBelow, ArrivalOk, Invariant}
+use Rattle.klaim.specs.Invariant.{allBelow, Invariant}
 use Rattle.klaim.proofs.Reader.{ArrivalRead as ReadOk, arrival-read}
 use Rattle.klaim.proofs.Invariant.{bring-keeps}
 use Rattle.klaim.proofs.Process.{tree-old, ordered-join}
@@ -29,7 +29,6 @@ use Rattle.tables.proofs.Lines.{length-view, line-view}
 use Rattle.flow.proofs.Sites.{mem-single}
 use Rattle.rules.specs.Masks.{Sized}
 use Rattle.door.specs.Parts.{sound}
-use Rattle.threads.specs.View.{threadsView}
 use Rattle.arrivals.specs.declared.ArrivalRead.{ArrivalRead}
 use Rattle.arrivals.specs.Read.{arrivalAnswer}
 use Rattle.state.specs.declared.Told.{Told}

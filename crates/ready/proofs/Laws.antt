@@ -13,7 +13,7 @@ use lib.Dec.{eqb, ltb}
 use lib.ListN.{length, getD, getElem?, take}
 use lib.Seq.{length-take-le, getD-take}
 use Rattle.sets.specs.Lists.{Elem, first, later, _&_, either, any, keep, below, among, table}
-use Rattle.sets.proofs.Lists.{cond-at, any-i, all-turn, All-in, All-get, ltb-lt, lt-ltb}
+use Rattle.sets.proofs.Lists.{cond-at, any-i, All-in, All-get, lt-ltb}
 use Rattle.sets.proofs.Tables.{getD-table, length-table}
 use Rattle.klaim.specs.declared.Loc.{Loc}
 use Rattle.klaim.specs.Process.{Line, lineAt, tree}
@@ -25,7 +25,7 @@ use Rattle.klaim.specs.State as Spec
 use Rattle.klaim.specs.State.{isNil}
 use Rattle.klaim.specs.Invariant.{ThreadOk, Invariant}
 use Rattle.klaim.specs.Engine.{doorAlone, runnable, ready}
-use Rattle.tables.specs.View.{estimateView, lineByte, fieldBytes, locOf, lineBy, lineOf, linesView, actionLine, rowAt, rowsView, Decoded, InForm}
+use Rattle.tables.specs.View.{estimateView, lineByte, fieldBytes, lineBy, lineOf, linesView, actionLine, rowAt, rowsView, Decoded, InForm}
 use Rattle.tables.specs.declared.Action.{Action}
 use Rattle.tables.proofs.Lines.{line-view, length-view}
 use Rattle.threads.specs.declared.Thread.{Thread}

@@ -1,6 +1,6 @@
 -- When a bare step can perform, by the line that the thread stands on; and the lowest such thread.
 -- Assumes nothing.
-use mathlib.Core.Path.{_≡_, refl, sym, ap, ap₂, subst, _∙_}
+use mathlib.Core.Path.{_≡_, refl, sym, ap, ap₂, _∙_}
 use mathlib.Core.Bool.{Bool, true, false, cond, false≢true}
 use mathlib.Core.List.{List, [], _∷_, _++_, map}
 use mathlib.Core.Option.{Option, none, some}
@@ -11,7 +11,7 @@ use lib.Dec.{eqb, leb, ltb}
 use lib.ListN.{length, getElem?, length-append}
 use Rattle.sets.specs.Lists.{Elem, first, later, _&_, either, any, only, keep, splice, below, table, tableFrom, among, _∪_}
 use Rattle.sets.specs.Bits.{outBit, inBit, readBit, evalBit, acceptBit}
-use Rattle.sets.proofs.Lists.{and-l, and-r, and-i, iff, any-at, any-i, in-any, eq-eqb, leb-le, le-leb, nleb-lt, ltb-lt, lt-ltb, among-in}
+use Rattle.sets.proofs.Lists.{and-l, and-r, and-i, iff, any-at, any-i, in-any, eq-eqb, leb-le, le-leb, ltb-lt, lt-ltb, among-in}
 use Rattle.klaim.specs.declared.Loc.{Loc}
 use Rattle.klaim.specs.declared.Slot.{Slot}
 use Rattle.klaim.specs.declared.Slot.the-variants.{Value}
@@ -21,7 +21,7 @@ use Rattle.klaim.specs.Report.{door}
 use Rattle.klaim.specs.State.{Thread, State, isNil, settle, unbound}
 use Rattle.klaim.specs.Invariant.{Invariant}
 use Rattle.klaim.specs.Reader.{refused, gives}
-use Rattle.klaim.specs.Engine.{Event, Result, Plan, stop, quiet, act, after, silent, performed, to, under, value, bindAll, agrees, getPlan, acceptPlan, plan, limit, finish, stepOf, step, performs, runnable, ready}
+use Rattle.klaim.specs.Engine.{Event, Result, stop, act, after, silent, performed, to, under, value, bindAll, agrees, getPlan, acceptPlan, plan, limit, finish, stepOf, step, performs, runnable}
 use Rattle.klaim.proofs.Ready.{runnable-any}
 use Rattle.ready.specs.Runs.{standing, room, welcome, runs}
 

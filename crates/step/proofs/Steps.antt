@@ -7,16 +7,15 @@ use mathlib.Core.Option.{some}
 use Prim.Native.Nat.{ℕ, _+_, _-_, _<_, _≤_}
 use native.Mathlib.Omega.{arith}
 use borrow.Author.Tests.{ne-eqb}
-use lib.Dec.{eqb, leb, ltb}
+use lib.Dec.{eqb, leb}
 use lib.ListN.{length, getD, set, getElem?}
 use Rattle.sets.specs.Lists.{_&_, either, splice}
 use Rattle.sets.specs.Bits.{mem}
-use Rattle.sets.proofs.Lists.{All-in, All-get, all-turn, ltb-lt, lt-ltb, and-l, and-r, leb-le}
+use Rattle.sets.proofs.Lists.{All-in, All-get, and-l, and-r, leb-le}
 use Rattle.klaim.specs.Process.{lineAt}
 use Rattle.klaim.specs.Reader.{Answer, refused, gives}
-use Rattle.klaim.specs.Net.{Net}
 use Rattle.klaim.specs.Engine.{Event, silent, performed, Result, Plan, stop, quiet, act, plan, permits, limit, finish, stepOf, step}
-use Rattle.klaim.specs.Invariant.{allBelow, ThreadOk, Invariant}
+use Rattle.klaim.specs.Invariant.{ThreadOk, Invariant}
 use Rattle.klaim.specs.State as Spec
 use Rattle.klaim.specs.Engine as Engine
 use Rattle.klaim.proofs.Invariant.{step-keeps}
@@ -30,7 +29,6 @@ use Rattle.state.specs.declared.Told.{Told}
 use Rattle.state.specs.declared.State.{State}
 use Rattle.state.specs.View.{groundView, stateView, answerView, resultView}
 use Rattle.state.specs.Fits.{soundAt, Fits}
-use Rattle.plan.specs.declared.Move.{Move}
 use Rattle.plan.specs.Move.{tuplesAfter, stateAfter, planView, Tables, Plannable}
 use Rattle.step.specs.declared.Decision.{Decision}
 use Rattle.step.specs.Stepped.{Measured, Decided, Stepped}

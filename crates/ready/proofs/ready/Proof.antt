@@ -3,7 +3,7 @@ use Prim.Native.Nat.{ℕ}
 use lib.ListN.{length}
 use Rattle.threads.proofs.Splice.{length-mapped}
 use Rattle.ready.proofs.Laws.{fits-testable, fits-ready}
-use borrow.Author.Needs.{needs, length-unmapped}
+use borrow.Author.Needs.{length-unmapped}
 use Rattle.ready.proofs.ready.Statement.{statement}
 use Rattle.ready.proofs.ready.Tie as tie
 

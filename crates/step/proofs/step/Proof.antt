@@ -1,13 +1,13 @@
-use mathlib.Core.Path.{_≡_, refl, sym, subst, _∙_}
+use mathlib.Core.Path.{refl, sym, subst, _∙_}
 use mathlib.Core.Logic.{_⊎_, ⊎-elim}
-use Prim.Native.Nat.{ℕ, _<_, _≤_}
+use Prim.Native.Nat.{ℕ, _<_}
 use native.Mathlib.Omega.{arith}
 use borrow.Author.Needs.{needs, length-unmapped}
-use lib.ListN.{length, set, length-set}
+use lib.ListN.{set, length-set}
 use Rattle.threads.proofs.Splice.{length-mapped}
 use Rattle.state.specs.View.{stateView}
 use Rattle.state.specs.Fits.{soundAt}
-use Rattle.step.proofs.Steps.{Long, withThreads, no-thread, tables, homes-is, lines-few, tuples-few, plannable, stepped-no, step-no, room, settled-gone, settled-stays, left-room, performs-alone, performs-more}
+use Rattle.step.proofs.Steps.{Long, withThreads, no-thread, tables, homes-is, tuples-few, plannable, stepped-no, step-no, room, settled-gone, settled-stays, left-room, performs-alone, performs-more}
 use Rattle.state.specs.declared.State.{State}
 use Rattle.plan.specs.Move.{tuplesAfter}
 use Rattle.step.specs.Stepped.{Stepped}
