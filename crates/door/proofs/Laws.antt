@@ -33,13 +33,9 @@ unfolding empty lowest
 lowest-full [] h = absurd (h refl)
 lowest-full (x ∷ xs) h = refl
 
-pub and-front : {a b : Bool} → a ≡ true → b ≡ (a & b)
+and-front : {a b : Bool} → a ≡ true → b ≡ (a & b)
 unfolding _&_
 and-front e = rw e
-
-pub and-stop : {a : Bool} (b : Bool) → a ≡ false → false ≡ (a & b)
-unfolding _&_
-and-stop b e = rw e
 
 -- the tests that the sandbox plays no part in
 module _ (N : Net) (E : Estimate) (l : ℕ) (ls : List Line) (q : ℕ) {P b : ℕ} (p : P ≡ 2 ^ l) (e : b ≡ lowest (broken N E P (tree ls q))) where

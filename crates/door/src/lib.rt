@@ -1,4 +1,4 @@
-//! The door: whether an arrival passes at a site under a sandbox.
+//! The door in two parts: where an arrival is sound, and whether its use map lies within a sandbox there.
 ghost use mathlib.Core.Path.{_≡_};
 ghost use Prim.Native.Nat.{ℕ, _<_, _≤_};
 ghost use lib.ListN.{length, getD};
@@ -6,7 +6,6 @@ ghost use Rattle.sets.specs.Lists.{all, below};
 ghost use Rattle.sets.specs.Bits.{within as isWithin};
 ghost use Rattle.klaim.specs.Process.{tree};
 ghost use Rattle.klaim.specs.Net.{Net, Estimate, boxAt};
-ghost use Rattle.klaim.specs.Report.{door as doorOf};
 ghost use Rattle.tables.specs.View.{linesView, rowsView, InForm};
 ghost use Rattle.rules.specs.Masks.{Sized};
 ghost use Rattle.klaim.specs.Analysis.{broken};
@@ -133,27 +132,4 @@ pub fn uses_fit(
     let places = sets::single(l);
     let uses = flow::use_map(lines, n, boxes, binds, places, q);
     uses_within(uses, boxes, d, l)
-}
-
-// The door for the arrival whose root is line q, at site l under sandbox d: all rules hold for its lines with place set l,
-// its use map lies within d evaluated at l, and none of its eval lines adds anything to a report.
-pub fn passes(
-    lines: &[u8; 2560],
-    n: usize,
-    boxes: &[u8; 1056],
-    binds: &[u32; 32],
-    hold: &[u8; 1024],
-    rows: &[u8; 1536],
-    count: usize,
-    d: u8,
-    l: u8,
-    q: u8,
-) -> bool
-    requires { ⌜ InForm n (now lines) q × (n ≤ 256) × (length (now lines) ≡ 2560) × Sized count (now rows) × (d < 32) × (l < 32) ⌝ }
-    ensures { λ r. ⌜ ((N : Net) (E : Estimate) → N .boxes ≡ now (boxes .entry) → E .binds ≡ now (binds .entry) → E .hold ≡ now (hold .entry) → E .stand ≡ rowsView count (now (rows .entry)) → r ≡ doorOf N E d l (tree (linesView n (now (lines .entry))) q)) ⌝ }
-{
-    if uses_fit(lines, n, boxes, binds, d, l, q) {
-        return sound(lines, n, boxes, binds, hold, rows, count, l, q);
-    }
-    false
 }
