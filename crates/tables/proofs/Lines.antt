@@ -1,18 +1,22 @@
 -- Laws of the process lines in their table: the line of a number, its process, its children.
 -- Assumes nothing.
 use mathlib.Core.Path.{_≡_, refl, sym, ap, subst, _∙_}
+use mathlib.Core.Bool.{Bool, true, false, cond}
 use mathlib.Core.List.{List, [], _∷_, map}
 use Prim.Native.Nat.{ℕ, zero, suc, _+_, _*_, _%_, _<_, _≤_, min}
 use native.Mathlib.Omega.{arith}
 use native.Mathlib.Nat.{add-zero, min-eq-left, min-eq-right}
 use native.Mathlib.Decide.{decLe}
-use lib.ListN.{length, getD, take, drop, length-take, length-drop}
+use lib.Dec.{eqb}
+use lib.ListN.{length, getD, take, drop, length-take, length-drop, List·getD-eq-default}
 use lib.Seq.{take-all, getD-take}
 use Rattle.sets.specs.Lists.{Elem, first, later}
+use Rattle.sets.proofs.Lists.{cond-at}
 use Rattle.sets.proofs.Tables.{getD-table, length-table}
 use Rattle.klaim.specs.declared.Loc.{Loc}
 use Rattle.klaim.specs.Process.{Line, lineAt, children, node, tree}
 use Rattle.klaim.specs.Process as Process
+use Rattle.klaim.specs.State.{isNil}
 use Rattle.klaim.proofs.Process.{tree-node, child-greater, child-line}
 use Rattle.tables.specs.declared.Action.{Action}
 use Rattle.tables.specs.declared.Action.the-variants.{Nil, Par, Rep, Out, In, Read, Eval, Accept}
@@ -25,6 +29,41 @@ length-view n bs = length-table n (lineOf bs)
 pub line-view : (n : ℕ) (bs : List ℕ) (q : ℕ) → q < n → lineAt (linesView n bs) q ≡ lineOf bs q
 unfolding linesView
 line-view n bs q h = getD-table n (lineOf bs) q Process.Nil h
+
+-- a line is the same in every view that has it
+pub same-line : (n m : ℕ) (bs : List ℕ) (q : ℕ) → q < n → q < m → lineAt (linesView n bs) q ≡ lineAt (linesView m bs) q
+same-line n m bs q h l = line-view n bs q h ∙ sym (line-view m bs q l)
+
+-- a line of kind 0 is `nil`, and no other
+abbrev Other : Line → Type 0
+Other x = isNil x ≡ false
+
+cond-nil : (t : Bool) (x : Line) → Other x → isNil (cond t Process.Nil x) ≡ t
+unfolding isNil
+cond-nil true x h = refl
+cond-nil false x h = h
+
+by-nil : (j a b k : ℕ) (g : Loc) (fs : List ℕ) → isNil (lineBy j a b k g fs) ≡ eqb j 0
+unfolding lineBy isNil
+by-nil j a b k g fs =
+    cond-nil (eqb j 0) _
+    (cond-at Other (eqb j 1) (λ t. refl) (λ t.
+    cond-at Other (eqb j 2) (λ t. refl) (λ t.
+    cond-at Other (eqb j 3) (λ t. refl) (λ t.
+    cond-at Other (eqb j 4) (λ t. refl) (λ t.
+    cond-at Other (eqb j 5) (λ t. refl) (λ t.
+    cond-at Other (eqb j 6) (λ t. refl) (λ t. refl)))))))
+
+pub nil-test : (n : ℕ) (bs : List ℕ) (q : ℕ) → q < n → eqb (getD bs (10 * q) 0) 0 ≡ isNil (lineAt (linesView n bs) q)
+unfolding lineOf
+nil-test n bs q h =
+    sym (ap isNil (line-view n bs q h)
+    ∙ by-nil (lineByte bs q 0) _ _ _ _ _
+    ∙ ap (λ (i : ℕ). eqb (getD bs i 0) 0) (add-zero (10 * q)))
+
+pub nil-past : (n : ℕ) (bs : List ℕ) (q : ℕ) → n ≤ q → true ≡ isNil (lineAt (linesView n bs) q)
+unfolding isNil
+nil-past n bs q h = sym (ap isNil (List·getD-eq-default (linesView n bs) Process.Nil {n = q} (omega (arith, length-view n bs))))
 
 -- the four bytes of a line's fields, and the first k of them read one by one
 pub length-fields : (bs : List ℕ) (q : ℕ) → 10 * q + 10 ≤ length bs → length (fieldBytes bs q) ≡ 4

@@ -3,7 +3,9 @@ ghost use mathlib.Core.Path.{_≡_};
 ghost use mathlib.Core.List.{List};
 ghost use Prim.Native.Nat.{ℕ, _<_, _≤_, min};
 ghost use lib.ListN.{getD, take};
-ghost use Rattle.tables.specs.View.{Decoded, slotOf, locOf, fieldBytes, lineBy, actionLine, LowLoc, LowSlot, LowAction};
+ghost use Rattle.klaim.specs.Process.{lineAt};
+ghost use Rattle.klaim.specs.State.{isNil};
+ghost use Rattle.tables.specs.View.{Decoded, slotOf, locOf, fieldBytes, lineBy, linesView, actionLine, LowLoc, LowSlot, LowAction};
 use klaim::Loc;
 use klaim::Site;
 use klaim::Slot;
@@ -213,4 +215,15 @@ pub fn field_at(lines: &[u8; 2560], q: u8, j: u8) -> u8
 {
     let at = LINE * (q as usize) + FIELD;
     lines[at + (j as usize)]
+}
+
+// Whether line q of the n lines is `nil`, or is none of them.
+pub fn is_nil(lines: &[u8; 2560], n: usize, q: u8) -> bool
+    ensures { λ r. ⌜ r ≡ isNil (lineAt (linesView n (now (lines .entry))) q) ⌝ }
+{
+    let at = q as usize;
+    if n <= at {
+        return true;
+    }
+    lines[LINE * at] == 0
 }
