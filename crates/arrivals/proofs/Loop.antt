@@ -9,14 +9,13 @@ use native.Mathlib.Decide.{ℕ-discrete}
 use lib.ListN.{length, replicate, length-replicate}
 use Rattle.sets.specs.Lists.{done, keep, table, tableFrom, below, same}
 use Rattle.klaim.specs.Rows.{Row, newline}
-use Rattle.klaim.specs.Reader.{anArrival, ofGroup, judge, scan, readRows, numbersOf, linesOf}
+use Rattle.klaim.specs.Reader.{anArrival, ofGroup, judge, numbersOf, linesOf}
 use Rattle.text.specs.Pieces.{endOf}
-use Rattle.text.proofs.Pieces.{end-le}
 use Rattle.tables.specs.View.{linesView}
 use Rattle.forms.specs.declared.RowData.{RowData}
 use Rattle.forms.specs.Forms.{rowData, rowView, rowGood}
 use Rattle.scan.specs.declared.Tally.{Tally}
-use Rattle.scan.specs.Progress.{rowsLeft, Progress, going, ended}
+use Rattle.scan.specs.Progress.{rowsLeft, Progress}
 use Rattle.scan.specs.Numbers.{judgedBy}
 use Rattle.scan.specs.Tallies.{countedOf}
 use Rattle.scan.proofs.Progress.{progress-none, progress-more, progress-bad, progress-end, progress-refused, going-on, row-within as within}

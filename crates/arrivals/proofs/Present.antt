@@ -1,10 +1,10 @@
 -- From 256 present lines on, it does not matter how many they are.
 -- Assumes nothing.
-use mathlib.Core.Path.{_≡_, refl, sym, ap, subst, _∙_}
+use mathlib.Core.Path.{_≡_, refl, sym, ap, _∙_}
 use mathlib.Core.Bool.{Bool, true, false, not, cond}
 use mathlib.Core.List.{List, [], _∷_, _++_}
 use mathlib.Core.Option.{Option, none, some}
-use Prim.Native.Nat.{ℕ, suc, _+_, _<_, _≤_, min}
+use Prim.Native.Nat.{ℕ, suc, _+_, min}
 use native.Mathlib.Omega.{arith}
 use lib.Dec.{eqb, leb}
 use lib.ListN.{length}
@@ -14,7 +14,7 @@ use Rattle.sets.proofs.Lists.{leb-le, nleb-lt}
 use Rattle.klaim.specs.Limits.{tupleLimit, threadLimit, lineLimit}
 use Rattle.klaim.specs.Process.{template, clash}
 use Rattle.klaim.specs.Rows.{Row, groupT, groupL, groupQ, groupA, rowsOf}
-use Rattle.klaim.specs.Reader.{Answer, refused, gives, andThen, anArrival, inLimits, ofGroup, present, full, over, headed, own, inOrder, repeated, misplaced, siteCount, absent, Judged, bad, good, judge, scan, readRows, whole, numbersOf, linesOf, readArrival}
+use Rattle.klaim.specs.Reader.{Answer, refused, andThen, anArrival, inLimits, ofGroup, present, full, over, headed, own, inOrder, repeated, misplaced, siteCount, absent, Judged, bad, good, judge, scan, readRows, whole, numbersOf, linesOf, readArrival}
 
 room-same : (d k : ℕ) → leb lineLimit (min d 256 + k) ≡ leb lineLimit (d + k)
 room-same d k = go (leb 256 d) refl

@@ -9,8 +9,8 @@ use native.Mathlib.Decide.{ℕ-discrete}
 use lib.Dec.{eqb, leb}
 use lib.ListN.{length, length-append, length-map}
 use borrow.Author.Tests.{ne-eqb}
-use Rattle.sets.specs.Lists.{All, done, more, _&_, either, all, below}
-use Rattle.sets.proofs.Lists.{eqb-eq, nleb-lt, All-append}
+use Rattle.sets.specs.Lists.{All, done, more, _&_, either, all}
+use Rattle.sets.proofs.Lists.{eqb-eq, nleb-lt, All-append, or-false, and-yes}
 use Rattle.sets.proofs.Tables.{length-table}
 use Rattle.klaim.specs.Process.{Line}
 use Rattle.klaim.specs.Rows.{Row, groupT, groupL, groupQ, groupA}
@@ -19,11 +19,12 @@ use Rattle.klaim.proofs.Above.{map-own}
 use Rattle.tables.specs.View.{linesView}
 use Rattle.forms.specs.declared.RowData.{RowData}
 use Rattle.forms.specs.Forms.{rowData, rowView, rowGood, tupleGroup}
+use Rattle.judge.proofs.Limits.{group-is}
 use Rattle.scan.specs.declared.Tally.{Tally}
 use Rattle.scan.specs.Numbers.{earlyOf, lateOf, numberOf, judgedBy}
 use Rattle.scan.specs.Tallies.{countedOf}
 use Rattle.scan.specs.Tallies as Tallies
-use Rattle.scan.proofs.Numbers.{group-is, formed, not-formed, early-passed}
+use Rattle.scan.proofs.Numbers.{formed, not-formed, early-passed}
 use Rattle.scan.proofs.Tallies.{and-under, group-none, turn-own, own-row}
 use Rattle.arrivals.specs.Rows.{ArrivalTally, Passed, fullOf}
 
@@ -32,15 +33,10 @@ line-count : (above : List Row) (lines : List ℕ) (k : ℕ) → linesView k lin
 unfolding linesView linesOf
 line-count above lines k e = sym (length-map (ofGroup groupQ above) (λ r. r .process)) ∙ ap length (sym e) ∙ length-table k _
 
-either-none : (b : Bool) → either b false ≡ b
-unfolding either
-either-none true = refl
-either-none false = refl
-
 -- the third of four tests
 third : {a b c x y : Bool} → a ≡ false → b ≡ false → c ≡ false → x ≡ y → either a (either b (either x c)) ≡ y
 unfolding either
-third {a} {b} {c} {x} {y} p q r e = rw (p, q, r) (either-none x ∙ e)
+third {a} {b} {c} {x} {y} p q r e = rw (p, q, r) (or-false x ∙ e)
 
 -- a row of a foreign group has no row of its group above
 module _ (n d g : ℕ) (above : List Row) (O : All (λ r. own (anArrival n d) (r .group) ≡ true) above) where
@@ -64,10 +60,6 @@ unfolding all _&_ own
 all-own n d k [] done e = refl
 all-own n d k (r ∷ above) (more p ps) e = ap₂ _&_ (ap₂ leb (eqb-eq p) e) (all-own n d k above ps e)
 
-true-and : (b : Bool) → true & b ≡ b
-unfolding _&_
-true-and b = refl
-
 and-known : (a : Bool) {x : Bool} → (a ≡ true → x ≡ true) → a & x ≡ a
 unfolding _&_
 and-known true h = h refl
@@ -77,7 +69,7 @@ and-known false h = refl
 module _ (n d : ℕ) (above : List Row) (lines : List ℕ) (row : RowData) (t : Tally) (G : rowGood row ≡ true) (Y : ArrivalTally n d above t lines) where
   placed-is : 0 < row .group → headed (anArrival n d) above (rowData row) & own (anArrival n d) (row .group) & inOrder above (rowData row) ≡ eqb (row .group) groupQ
   unfolding headed own inOrder
-  placed-is h = true-and _ ∙ and-known (eqb (row .group) groupQ) (λ e. all-own n d (rowData row .group) above (Y .owned) (group-is row G h ∙ eqb-eq e))
+  placed-is h = and-yes _ refl ∙ and-known (eqb (row .group) groupQ) (λ e. all-own n d (rowData row .group) above (Y .owned) (group-is row G h ∙ eqb-eq e))
 
   not-repeated : 0 < row .group → eqb (row .group) groupQ ≡ true → repeated above (rowData row) ≡ false
   unfolding repeated _&_

@@ -8,34 +8,20 @@ use lib.Dec.{eqb, ltb}
 use lib.ListN.{length}
 use borrow.Author.Tests.{ne-eqb, lt-ltb, le-ltb, ltb-true}
 use Rattle.sets.specs.Lists.{_&_, all, empty, below, same}
-use Rattle.sets.proofs.Lists.{and-l, and-r}
-use Rattle.sets.proofs.Tables.{length-table}
+use Rattle.sets.proofs.Lists.{and-l, and-r, and-true, and-false}
 use Rattle.klaim.specs.Process.{Line, ordered, free, tree}
 use Rattle.klaim.specs.Rows.{Row}
 use Rattle.klaim.specs.Reader.{Answer, refused, gives, andThen, numbersOf, linesOf, inTurn, namedOnce, rootsClosed, whole, readArrival}
 use Rattle.tables.specs.View.{linesView, InForm}
+use Rattle.tables.proofs.Lines.{length-view}
 use Rattle.arrivals.specs.declared.ArrivalRows.{ArrivalRows}
 use Rattle.arrivals.specs.Read.{arrivalAnswer, RowsRead, taken, refusal, turnOf, wholeNumber}
 
-and-true : (b : Bool) → b & true ≡ b
-unfolding _&_
-and-true true = refl
-and-true false = refl
-
-and-false : (b : Bool) → b & false ≡ false
-unfolding _&_
-and-false true = refl
-and-false false = refl
-
 -- there is a line 0
-lines-long : (n : ℕ) (bs : List ℕ) → length (linesView n bs) ≡ n
-unfolding linesView
-lines-long n bs = length-table n _
-
 module _ (n : ℕ) (bs : List ℕ) (turn : Bool) where
   turn-is : turnOf turn (linesView n bs) ≡ (turn & ordered (linesView n bs) & ltb 0 n)
   unfolding turnOf all
-  turn-is = ap (λ (b : Bool). turn & ordered (linesView n bs) & b) (and-true (ltb 0 (length (linesView n bs))) ∙ ap (ltb 0) (lines-long n bs))
+  turn-is = ap (λ (b : Bool). turn & ordered (linesView n bs) & b) (and-true (ltb 0 (length (linesView n bs))) ∙ ap (ltb 0) (length-view n bs))
 
   pub turn-out : turn ≡ false → false ≡ turnOf turn (linesView n bs)
   unfolding _&_
@@ -102,7 +88,7 @@ module _ (n d : ℕ) (s : List ℕ) (r : ArrivalRows) where
   arrival-whole (refusal z e) h number q = absurd (z h)
   arrival-whole (taken rows z e T) h number q =
       let ls = linesView (r .count) (r .lines) in
-      let t : same (numbersOf rows) (below (length ls)) ≡ r .turn = ap (λ (k : ℕ). same (numbersOf rows) (below k)) (lines-long (r .count) (r .lines)) ∙ T .turn in
+      let t : same (numbersOf rows) (below (length ls)) ≡ r .turn = ap (λ (k : ℕ). same (numbersOf rows) (below k)) (length-view (r .count) (r .lines)) ∙ T .turn in
       ap (λ (k : ℕ). cond (eqb k 0) (gives ls) (refused k 0)) q
       ∙ sym (whole-is (numbersOf rows) ls (r .turn) ls t)
       ∙ ap (λ (l : List Line). whole (numbersOf rows) l (0 ∷ []) l) (T .linesIs)

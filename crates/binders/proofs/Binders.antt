@@ -6,11 +6,10 @@ use mathlib.Core.List.{List, [], _∷_, map}
 use Prim.Native.Nat.{ℕ, zero, suc, _+_, _≤_, _<_}
 use native.Mathlib.Omega.{arith}
 use lib.Dec.{eqb, leb, ltb}
-use lib.ListN.{length}
 use lib.Seq.{take-nil}
 use borrow.Author.Tests.{leb-true, leb-false, le-ltb, lt-ltb, ne-eqb}
 use Rattle.sets.specs.Lists.{_&_, either, imp, all, any, only, keep, sum, count, concat, _∪_}
-use Rattle.sets.proofs.Lists.{and-l, and-r, union-append, length-keep}
+use Rattle.sets.proofs.Lists.{and-l, and-r, count-union, count-one}
 use Rattle.klaim.specs.Process.{In, Read, template, clash, usedIn, boundIn}
 use Rattle.klaim.specs.declared.Loc.{Loc}
 use Rattle.klaim.specs.declared.Slot.{Slot}
@@ -39,19 +38,7 @@ first-sum p f = go (f .count) refl
         rw (ne-eqb (f .count) 0 (λ z. omega arith), ne-eqb (f .count) 1 (λ z. omega arith), ne-eqb (f .count) 2 (λ z. omega arith), ne-eqb (f .count) 3 (λ z. omega arith), e, take-nil n)
         (omega arith)
 
-count-union : (u : ℕ) (xs ys : List ℕ) → count u (xs ∪ ys) ≡ count u xs + count u ys
-unfolding count
-count-union u xs ys = rw union-append (length-keep (eqb u) xs ys)
-
 -- a variable in one name
-count-one : (u n : ℕ) → count u (n ∷ []) ≡ cond (eqb u n) 1 0
-unfolding count keep only _∪_
-count-one u n = go (eqb u n)
-  where
-    go : (b : Bool) → length (only b n ∪ []) ≡ cond b 1 0
-    go true = refl
-    go false = refl
-
 count-name : (u : ℕ) (m : Name) → upTo 4 m ≡ true → count u (usedIn (slot m)) + count u (boundIn (slot m)) ≡ hits u m
 unfolding upTo slot loc usedIn boundIn hits count keep _&_
 count-name u m p = go (m .kind) refl (leb-true 1 (m .kind) (and-l (leb 1 (m .kind)) (leb (m .kind) 4) p)) (leb-true (m .kind) 4 (and-r (leb 1 (m .kind)) (leb (m .kind) 4) p))

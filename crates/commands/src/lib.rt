@@ -1,5 +1,7 @@
 //! The command rows of an engine script: what each says, as numbers.
-ghost use Prim.Native.Nat.{_<_};
+ghost use Rattle.text.specs.Pieces.{Cut};
+use text::EDGES;
+use text::Spelled;
 
 // A command: its kind, and its three numbers where it has them.
 pub struct Command {
@@ -20,49 +22,6 @@ pub const DOOR: u8 = 3;
 pub const READY: u8 = 4;
 
 pub const BRING: u8 = 5;
-
-// A field as a decimal number; `is` says whether it is one.
-struct Count {
-    is: bool,
-    value: usize,
-}
-
-// A number with a digit more; what does not fit is as good as the largest.
-fn longer(n: usize, digit: usize) -> usize
-    requires { ⌜ digit < 10 ⌝ }
-{
-    if (usize::MAX - digit) / 10 < n {
-        return usize::MAX;
-    }
-    10 * n + digit
-}
-
-// At least one digit, and nothing else.
-fn decimal(f: &[u8]) -> Count {
-    let mut n: usize = 0;
-    let mut i = 0;
-    while i < f.len() {
-        let b = f[i];
-        if b < b'0' {
-            return Count {
-                is: false,
-                value: 0,
-            };
-        }
-        if b'9' < b {
-            return Count {
-                is: false,
-                value: 0,
-            };
-        }
-        n = longer(n, (b - b'0') as usize);
-        i += 1;
-    }
-    Count {
-        is: 0 < f.len(),
-        value: n,
-    }
-}
 
 // The kind of a command with three numbers, by its name.
 fn kind_of(f: &[u8]) -> u8 {
@@ -89,7 +48,7 @@ fn bare(kind: u8) -> Command {
 }
 
 // A command of three numbers, bad where one is none.
-fn joined(kind: u8, a: Count, b: Count, c: Count) -> Command {
+fn joined(kind: u8, a: Spelled, b: Spelled, c: Spelled) -> Command {
     if a.is {
         if b.is {
             if c.is {
@@ -105,18 +64,26 @@ fn joined(kind: u8, a: Count, b: Count, c: Count) -> Command {
     bare(BAD)
 }
 
-// A command that has fields.
-fn with_numbers(row: &[u8]) -> Command {
-    let mut edges = [0usize; text::EDGES];
-    let n = text::cuts(row, &mut edges);
-    let kind = kind_of(text::field(row, &edges, n, 0));
-    let a = decimal(text::field(row, &edges, n, 1));
-    let b = decimal(text::field(row, &edges, n, 2));
-    let c = decimal(text::field(row, &edges, n, 3));
+// A command of n fields.
+fn of_fields(row: &[u8], edges: &[usize; EDGES], n: usize) -> Command
+    requires { ⌜ Cut (now row) (now edges) n ⌝ }
+{
+    let kind = kind_of(text::field(row, edges, n, 0));
+    let a = text::decimal(text::field(row, edges, n, 1));
+    let b = text::decimal(text::field(row, edges, n, 2));
+    let c = text::decimal(text::field(row, edges, n, 3));
     if n == 4 {
         return joined(kind, a, b, c);
     }
     bare(BAD)
+}
+
+// A command that has fields.
+fn with_numbers(row: &[u8]) -> Command {
+    let mut edges = [0usize; EDGES];
+    let cut = text::cut(row, 0, &mut edges);
+    let end = cut.end;
+    of_fields(&row[..end], &edges, cut.count)
 }
 
 // What a row commands.

@@ -3,26 +3,24 @@
 use mathlib.Core.Path.{_≡_, refl, sym, ap, subst, _∙_}
 use mathlib.Core.Bool.{Bool, true, cond}
 use mathlib.Core.List.{List, [], _∷_, _++_}
-use Prim.Native.Nat.{ℕ, zero, suc, _+_, _<_, _≤_}
+use Prim.Native.Nat.{ℕ, _+_, _<_, _≤_}
 use native.Mathlib.Omega.{arith}
 use native.Mathlib.Decide.{ℕ-discrete}
 use lib.Dec.{eqb}
 use lib.ListN.{length, replicate, length-replicate}
 use borrow.Author.Tests.{eq-eqb, ne-eqb}
 use Rattle.sets.specs.Lists.{done, either, keep, table, tableFrom}
-use Rattle.sets.specs.Bits.{joins}
 use Rattle.sets.proofs.Lists.{and-l, leb-le}
 use Rattle.klaim.specs.Rows.{Row, newline, groupL, groupQ, groupB, groupA, groupE}
-use Rattle.klaim.specs.Reader.{anEstimate, refused, gives, andThen, ofGroup, judge, scan, gather, readRows, estimateOf, readEstimate}
+use Rattle.klaim.specs.Reader.{anEstimate, refused, gives, andThen, ofGroup, judge, readRows, estimateOf, readEstimate}
 use Rattle.klaim.proofs.Above.{last-none}
 use Rattle.text.specs.Pieces.{endOf}
-use Rattle.text.proofs.Pieces.{end-le}
 use Rattle.tables.specs.View.{rowsView, estimateView}
 use Rattle.tables.specs.declared.Estimate.{Estimate}
 use Rattle.forms.specs.declared.RowData.{RowData}
 use Rattle.forms.specs.Forms.{rowData, rowView, rowGood, tupleGroup}
 use Rattle.scan.specs.declared.Tally.{Tally}
-use Rattle.scan.specs.Progress.{rowsLeft, Progress, going, ended}
+use Rattle.scan.specs.Progress.{rowsLeft, Progress}
 use Rattle.scan.specs.Numbers.{judgedBy}
 use Rattle.scan.specs.Tallies.{countedOf}
 use Rattle.scan.specs.Tallies as Tallies

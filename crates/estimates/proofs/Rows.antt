@@ -18,11 +18,12 @@ use Rattle.klaim.proofs.Above.{group-other, map-other, map-own, last-snoc}
 use Rattle.tables.specs.View.{rowsView}
 use Rattle.forms.specs.declared.RowData.{RowData}
 use Rattle.forms.specs.Forms.{rowData, rowView, rowGood, plainGood, pairGroup, tupleGroup}
+use Rattle.judge.proofs.Limits.{group-is}
 use Rattle.scan.specs.declared.Tally.{Tally}
 use Rattle.scan.specs.Numbers.{earlyOf, lateOf, numberOf, judgedBy}
 use Rattle.scan.specs.Tallies.{countedOf}
 use Rattle.scan.specs.Tallies as Tallies
-use Rattle.scan.proofs.Numbers.{group-is, formed, not-formed, early-passed}
+use Rattle.scan.proofs.Numbers.{formed, not-formed, early-passed}
 use Rattle.scan.proofs.Tallies.{and-under, group-none}
 use Rattle.repeats.proofs.Rows.{as-kept}
 use Rattle.repeats.specs.Kept.{KeysAre}

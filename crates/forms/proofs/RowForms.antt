@@ -1,6 +1,6 @@
 -- Laws of the groups of rows: each form by the tests that the code makes.
 -- Assumes nothing.
-use mathlib.Core.Path.{_≡_, refl, ap, _∙_}
+use mathlib.Core.Path.{_≡_, refl, _∙_}
 use mathlib.Core.Logic.{_⊎_, inl, inr, ⊎-elim}
 use mathlib.Core.Bool.{true, false}
 use mathlib.Core.List.{List, [], _∷_, map}
@@ -9,7 +9,7 @@ use Prim.Native.Nat.{ℕ, _+_, _≤_}
 use native.Mathlib.Omega.{arith}
 use lib.Dec.{eqb, ltb}
 use lib.ListN.{length, getD, drop}
-use Rattle.sets.specs.Lists.{_&_, either, all, same, _∪_}
+use Rattle.sets.specs.Lists.{_&_, either, all, same}
 use Rattle.sets.proofs.Lists.{or-case, eqb-eq}
 use Rattle.klaim.specs.Process.{Nil}
 use Rattle.klaim.specs.Rows.{Row, at, text, given, number, siteField, varField, rightsField, lineForm, groupN, groupR, groupD, groupT, groupL, groupB, groupA, groupE, rowN, rowPair, rowD, rowTuple, rowL, rowB, rowQ, rowLine, rowForm}

@@ -10,48 +10,12 @@ pub struct Frame {
     pub end: usize,
 }
 
-// A number with a digit more. The largest stands for what fits no machine number or is no number; no case is as long.
-fn longer(n: usize, b: u8) -> usize {
-    if b < b'0' {
-        return usize::MAX;
-    }
-    if b'9' < b {
-        return usize::MAX;
-    }
-    let digit = (b - b'0') as usize;
-    if (usize::MAX - digit) / 10 < n {
-        return usize::MAX;
-    }
-    10 * n + digit
-}
-
-// The number that a row spells by its digits, of which there is at least one.
-fn spelled(row: &[u8]) -> usize {
-    if row.len() == 0 {
-        return usize::MAX;
-    }
-    let mut n: usize = 0;
-    let mut i = 0;
-    while i < row.len() {
-        n = longer(n, row[i]);
-        i += 1;
-    }
-    n
-}
-
 // Where the row that begins at `at` ends; at the end of the bytes, where no 0A ends it.
 fn row_end(input: &[u8], at: usize) -> usize
     requires { ⌜ at ≤ length (now input) ⌝ }
     ensures { λ r. ⌜ (at ≤ r) × (r ≤ length (now (input .entry))) ⌝ }
 {
-    let mut i = at;
-    while i < input.len() {
-        if input[i] == b'\n' {
-            return i;
-        }
-        i += 1;
-    }
-    i
+    text::row_end(input, at)
 }
 
 // A broken frame: what is left, to the end, is no case.
@@ -75,7 +39,11 @@ pub fn next(input: &[u8], at: usize) -> Frame
         return broken(end);
     }
     let from = end + 1;
-    let size = spelled(&input[at..end]);
+    let length = text::decimal(&input[at..end]);
+    if !length.is {
+        return broken(input.len());
+    }
+    let size = length.value;
     if input.len() - from < size {
         return broken(input.len());
     }

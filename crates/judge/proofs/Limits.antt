@@ -9,7 +9,7 @@ use native.Mathlib.Omega.{arith}
 use lib.Dec.{eqb, leb, ltb}
 use borrow.Author.Tests.{leb-true, le-leb, lt-leb, lt-ltb, le-ltb, ltb-true, ltb-false, ne-eqb}
 use Rattle.sets.specs.Lists.{_&_, either, imp, all, only, concat, _∪_}
-use Rattle.sets.proofs.Lists.{and-l, and-r, and-i, iff, eqb-eq}
+use Rattle.sets.proofs.Lists.{and-l, and-r, and-i, iff, eqb-eq, and-true, all-map}
 use Rattle.klaim.specs.Limits.{siteLimit, boxLimit, varLimit, lineLimit}
 use Rattle.klaim.specs.declared.Slot.{Slot}
 use Rattle.klaim.specs.Process.{slotsOf, sitesIn, usedIn, boundIn}
@@ -22,7 +22,7 @@ use Rattle.lines.specs.Lines.{names, present, lineOf, lineShape, lineGood}
 use Rattle.forms.specs.declared.RowData.{RowData}
 use Rattle.forms.specs.Forms.{listed, plainRow, rowData, pairGroup, tupleGroup, plainShape, plainGood, rowGood}
 use Rattle.judge.specs.Judge.{lowNumber, lowName, lowNames, lowNumbers, lowSize, lowVariable, rowLimits}
-use Rattle.judge.proofs.Tests.{and-true, all-union, all-and, all-agree, all-concat, all-mapped, none-reaches}
+use Rattle.judge.proofs.Tests.{all-union, all-and, all-agree, all-concat, none-reaches}
 use Rattle.judge.proofs.Names.{name-low, fields-fit, Parts, parts, names-test}
 
 -- a number, if there is one
@@ -147,7 +147,7 @@ module _ (most n : ℕ) (h : 1 ≤ most) where
   unfolding lowNames
   plain-names {r} P =
       all-union (under n) (sitesTo (r .line .target)) (map (λ (m : Name). m .number) (names (r .line .fields)))
-      ∙ rw (site-target (r .line .target) (P .target-low), all-mapped (under n) (λ (m : Name). m .number) (names (r .line .fields)), all-agree (upTo 1) (λ m. under n (m .number)) (lowName most n) site-field (names (r .line .fields)) (P .fields-low))
+      ∙ rw (site-target (r .line .target) (P .target-low), all-map (under n) (λ (m : Name). m .number) (names (r .line .fields)), all-agree (upTo 1) (λ m. under n (m .number)) (lowName most n) site-field (names (r .line .fields)) (P .fields-low))
 
 -- 4
 pub sites-are : (n : ℕ) {r : RowData} → Good r → lowNames 1 n (r .line) ≡ not (absent n (rowData r))
@@ -216,3 +216,12 @@ pub limits-are : {r : RowData} → Good r → rowLimits r ≡ inLimits (rowData 
 unfolding rowLimits rowData lowSize lowVariable either imp _&_
 limits-are {r} (q-row e k l P o) = rw (e, lt-ltb 0 (r .line .kind) k) (q-limits (r .own) P o)
 limits-are {r} (plain-row e k P) = rw (le-ltb 0 (r .line .kind) (omega arith)) (plain-limits r e P)
+
+-- the group of a row
+pub group-is : (r : RowData) → rowGood r ≡ true → 0 < r .group → rowData r .group ≡ r .group
+unfolding rowData rowLine plainRow
+group-is r G h = go (good r G h)
+  where
+    go : Good r → rowData r .group ≡ r .group
+    go (q-row e k l P o) = rw (lt-ltb 0 (r .line .kind) k) (sym e)
+    go (plain-row e k P) = rw k

@@ -9,7 +9,7 @@ use lib.Dec.{ltb}
 use lib.Seq.{take-nil}
 use borrow.Author.Tests.{leb-true, le-leb, lt-ltb, ne-eqb}
 use Rattle.sets.specs.Lists.{_&_, imp, all, only, _∪_}
-use Rattle.sets.proofs.Lists.{and-l, and-r, and-i, eqb-eq, all-turn}
+use Rattle.sets.proofs.Lists.{and-l, and-r, and-i, eqb-eq, all-turn, and-true, all-map}
 use Rattle.klaim.specs.declared.Slot.{Slot}
 use Rattle.klaim.specs.declared.Slot.the-variants.{Value}
 use Rattle.klaim.specs.Process.{children, boxesOf, slotsOf}
@@ -21,7 +21,7 @@ use Rattle.lines.specs.Lines.{names, fitAll, present, nameFits, fieldsFit, getK
 use Rattle.forms.specs.Forms.{listed}
 use Rattle.forms.proofs.Views.{there, absent, no-fields}
 use Rattle.judge.specs.Judge.{firstOf}
-use Rattle.judge.proofs.Tests.{and-true, all-union, all-only, all-agree, all-mapped}
+use Rattle.judge.proofs.Tests.{all-union, all-only, all-agree}
 
 listed-is : (a : Bool) (n : ℕ) → present a n ≡ true → listed n ≡ only a n
 unfolding only
@@ -184,4 +184,4 @@ module _ (f : Slot → Bool) (g : Name → Bool) (same : (m : Name) → upTo 4 m
   names-test =
       ap (all f) (P .slots-are)
       ∙ all-union f (only (ltb 0 (d .target .kind)) (slot (d .target))) (map slot (names (d .fields)))
-      ∙ rw (all-only f (ltb 0 (d .target .kind)) (slot (d .target)), target-test, all-mapped f slot (names (d .fields)), all-agree (upTo 4) (λ m. f (slot m)) g same (names (d .fields)) (P .fields-low))
+      ∙ rw (all-only f (ltb 0 (d .target .kind)) (slot (d .target)), target-test, all-map f slot (names (d .fields)), all-agree (upTo 4) (λ m. f (slot m)) g same (names (d .fields)) (P .fields-low))

@@ -2,22 +2,12 @@
 -- Assumes nothing.
 use mathlib.Core.Path.{_≡_, refl, sym, ap, _∙_}
 use mathlib.Core.Bool.{Bool, true, false, not}
-use mathlib.Core.List.{List, [], _∷_, map}
+use mathlib.Core.List.{List, [], _∷_}
 use Prim.Native.Nat.{ℕ}
 use lib.Dec.{leb, ltb}
 use borrow.Author.Tests.{leb-true, le-ltb, lt-ltb}
 use Rattle.sets.specs.Lists.{_&_, either, imp, all, any, only, concat, _∪_}
-use Rattle.sets.proofs.Lists.{and-l, and-r, nleb-lt}
-
-pub and-true : (a : Bool) → a & true ≡ a
-unfolding _&_
-and-true true = refl
-and-true false = refl
-
-pub and-assoc : (a b c : Bool) → (a & b) & c ≡ a & (b & c)
-unfolding _&_
-and-assoc true b c = refl
-and-assoc false b c = refl
+use Rattle.sets.proofs.Lists.{and-l, and-r, nleb-lt, and-true, and-assoc}
 
 -- the tests of two names, sort by sort
 cross : (a b c d : Bool) → (a & b) & (c & d) ≡ (a & c) & (b & d)
@@ -53,11 +43,6 @@ pub all-concat : {A B : Type 0} (f : B → Bool) (g : A → List B) (xs : List A
 unfolding all concat
 all-concat f g [] = refl
 all-concat f g (x ∷ xs) = all-union f (g x) (concat g xs) ∙ ap (λ (b : Bool). all f (g x) & b) (all-concat f g xs)
-
-pub all-mapped : {A B : Type 0} (f : B → Bool) (g : A → B) (xs : List A) → all f (map g xs) ≡ all (λ x. f (g x)) xs
-unfolding all
-all-mapped f g [] = refl
-all-mapped f g (x ∷ xs) = ap (λ (b : Bool). f (g x) & b) (all-mapped f g xs)
 
 -- no site reaches n
 pub none-reaches : (n : ℕ) (xs : List ℕ) → not (any (λ s. leb n s) xs) ≡ all (λ s. ltb s n) xs

@@ -1,19 +1,18 @@
 -- The rows above, as a reader keeps them: what one row more changes, and how the tests on the rows above read on the tables.
 -- Assumes nothing.
-use mathlib.Core.Path.{_≡_, refl, sym, ap, ap₂, subst, _∙_}
-use mathlib.Core.Logic.{_⊎_, inl, inr}
-use mathlib.Core.Bool.{Bool, true, false, not, cond, false≢true}
+use mathlib.Core.Path.{_≡_, sym, ap, _∙_}
+use mathlib.Core.Bool.{Bool, true, false}
 use mathlib.Core.List.{List, [], _∷_, _++_, map, append-nil}
-use Prim.Native.Nat.{ℕ, zero, suc, _+_, _*_, _<_, _≤_}
+use Prim.Native.Nat.{ℕ, _<_}
 use native.Mathlib.Omega.{arith}
 use native.Mathlib.Decide.{ℕ-discrete}
 use lib.Dec.{eqb, leb}
-use lib.ListN.{length, getD, set, length-set}
+use lib.ListN.{getD, set, length-set}
 use lib.Seq.{ext-getD, getD-set-same, getD-set-other}
 use borrow.Author.Tests.{eq-eqb, ne-eqb}
-use Rattle.sets.specs.Lists.{Elem, All, done, more, _&_, all, any, only, keep, table, same, _∪_}
+use Rattle.sets.specs.Lists.{all, only, keep, table}
 use Rattle.sets.specs.Bits.{join, grant, joins}
-use Rattle.sets.proofs.Lists.{and-l, and-r, and-i, leb-le, le-leb, keep-snoc, map-append, all-append, all-one, all-last, iff}
+use Rattle.sets.proofs.Lists.{leb-le, le-leb, keep-snoc, map-append, all-append, all-one, all-last, iff}
 use Rattle.sets.proofs.Joins.{join-none-r, joins-snoc}
 use Rattle.sets.proofs.Tables.{length-table, getD-table}
 use Rattle.klaim.specs.Rows.{Row}

@@ -3,18 +3,17 @@
 use mathlib.Core.Path.{_≡_, refl, sym, ap, subst, _∙_}
 use mathlib.Core.Logic.{_≢_, _⊎_, inl, inr}
 use mathlib.Core.Bool.{Bool, true, false, false≢true}
-use mathlib.Core.List.{List, [], _∷_, map}
+use mathlib.Core.List.{List, [], _∷_}
 use mathlib.Core.Option.{Option, none, some, Option·getD, Option·none-ne-some, Option·some-injective}
-use Prim.Native.Nat.{ℕ, zero, suc, _<_, _≤_, _^_}
+use Prim.Native.Nat.{ℕ, _<_, _≤_, _^_}
 use native.Mathlib.Omega.{arith}
-use lib.ListN.{length, getD, set, replicate, length-set}
+use lib.ListN.{length, getD, set, length-set}
 use lib.Seq.{getD-set-same, getD-set-other}
-use lib.Dec.{eqb, ltb}
-use Rattle.sets.specs.Lists.{Elem, first, later, _&_, all, concat, _∪_}
-use Rattle.sets.specs.Bits.{mem, sites}
-use Rattle.sets.proofs.Lists.{ltb-lt, eq-eqb, eqb-eq, and-l, and-r, and-i, in-none}
+use lib.Dec.{eqb}
+use Rattle.sets.specs.Lists.{Elem, first, later, all, concat, _∪_}
+use Rattle.sets.specs.Bits.{sites}
+use Rattle.sets.proofs.Lists.{ltb-lt, eq-eqb, eqb-eq, and-l, and-r, in-none, getD-same}
 use Rattle.sets.proofs.Bits.{has-self, sites-in}
-use Rattle.klaim.specs.declared.Site.{Site}
 use Rattle.klaim.specs.declared.Var.{Var}
 use Rattle.klaim.specs.declared.Loc.{Loc}
 use Rattle.klaim.specs.declared.Loc.the-variants.{At, Here, Use}
@@ -42,14 +41,9 @@ Each Q (s ∷ ss) [] = Unit {0}
 Each Q (Value x ∷ ss) (v ∷ vs) = Each Q ss vs
 Each Q (Bind u ∷ ss) (v ∷ vs) = Q (u .0) v × Each Q ss vs
 
-getD-unbound : (n u : ℕ) → getD {A = Option ℕ} (replicate n none) u none ≡ none
-getD-unbound zero u = refl
-getD-unbound (suc n) zero = refl
-getD-unbound (suc n) (suc u) = getD-unbound n u
-
 -- nothing is bound at first
 pub unbound-holds : (Q : ℕ → ℕ → Type 0) → Holds Q unbound
-unbound-holds Q u s t = absurd (Option·none-ne-some s (sym (getD-unbound 32 u) ∙ t))
+unbound-holds Q u s t = absurd (Option·none-ne-some s (sym (getD-same none 32 u) ∙ t))
 
 ne : {m n : ℕ} → eqb m n ≡ false → m ≢ n
 ne {m} {n} q e = false≢true (sym q ∙ subst (λ (x : ℕ). eqb m x ≡ true) e (eq-eqb m))

@@ -1,16 +1,15 @@
 -- The rule for out, by counting: every choice has an A row exactly when as many A rows lie within the reaches as there are choices.
 -- Assumes nothing.
 use mathlib.Core.Path.{_≡_, refl, sym, ap, subst, _∙_}
-use mathlib.Core.Logic.{_⊎_, inl, inr}
-use mathlib.Core.Bool.{Bool, true, false, not, false≢true}
+use mathlib.Core.Bool.{Bool, true, false, false≢true}
 use mathlib.Core.List.{List, [], _∷_, map}
-use Prim.Native.Nat.{ℕ, zero, suc, _+_, _*_, _≤_}
+use Prim.Native.Nat.{ℕ, zero, suc, _*_, _≤_}
 use native.Mathlib.Omega.{arith}
 use lib.Dec.{eqb}
 use lib.ListN.{length, length-map}
-use Rattle.sets.specs.Lists.{Elem, first, later, All, done, more, _&_, all, any, only, keep, concat, same, among, below, tableFrom, table, _∪_}
+use Rattle.sets.specs.Lists.{Elem, first, later, All, more, _&_, any, only, keep, concat, same, among, below, tableFrom, table, _∪_}
 use Rattle.sets.specs.Bits.{mem, sites}
-use Rattle.sets.proofs.Lists.{and-l, and-r, and-i, in-none, in-map, in-concat, in-keep, keep-out, map-out, all-at, all-i, any-in, in-any, among-in, any-i, same-eq, same-refl, not-yes, eq-eqb, eqb-eq, iff, split, length-union, any-none}
+use Rattle.sets.proofs.Lists.{and-l, and-r, and-i, in-none, in-map, in-concat, in-keep, keep-out, map-out, all-at, all-i, any-in, in-any, among-in, any-i, same-eq, same-refl, not-yes, eq-eqb, eqb-eq, iff, length-union}
 use Rattle.sets.proofs.Counting.{Unlike, none, within-short, within-full, unlike-map, unlike-concat, concat-out}
 use Rattle.sets.proofs.Counting as Counting
 use Rattle.klaim.specs.Analysis.{choices}

@@ -1,8 +1,8 @@
 -- Demand 3 holds.
 -- Assumes nothing.
 use mathlib.Core.Path.{_≡_, refl, sym, ap, subst, _∙_}
-use mathlib.Core.Bool.{Bool, true, false, cond}
-use mathlib.Core.List.{List, [], _∷_, _++_, map}
+use mathlib.Core.Bool.{true, false}
+use mathlib.Core.List.{List, [], _∷_, map}
 use mathlib.Core.Option.{Option, none, some}
 use Prim.Native.Nat.{ℕ, _<_}
 use native.Mathlib.Omega.{arith}
@@ -21,7 +21,7 @@ use Rattle.klaim.specs.Check.{Checked, written, checkRead, check}
 use Rattle.klaim.specs.State.{Thread, State, begin, start}
 use Rattle.klaim.specs.Engine.{Event, silent, performed, Result, bringRead, bring, Plan, stop, quiet, act, permits, limit, finish, stepOf, step}
 use Rattle.klaim.specs.Invariant.{Invariant}
-use Rattle.klaim.specs.Demand3.{Call, bringing, bare, guarded, call, guard, run, acting, Permitted, Within, Safe, GuardsIdle, reportOf, Demand3, Statement, Allowed, GuardStatement}
+use Rattle.klaim.specs.Demand3.{Call, bringing, bare, guarded, call, guard, run, acting, Permitted, Safe, GuardsIdle, reportOf, Statement, Allowed, GuardStatement}
 use Rattle.klaim.proofs.Scan.{refused-none}
 use Rattle.klaim.proofs.Reader.{both-read}
 use Rattle.klaim.proofs.Invariant.{step-keeps, bring-keeps, start-gives}

@@ -6,25 +6,24 @@ use mathlib.Core.Bool.{Bool, true, false, not, cond, false≢true}
 use mathlib.Core.List.{List, [], _∷_, map}
 use mathlib.Core.Option.{Option, none, some, Option·map, Option·none-ne-some}
 use Prim.Native.Nat.{ℕ, suc, _<_, _≤_, _^_}
-use native.Mathlib.Omega.{arith}
 use lib.ListN.{length, getD}
 use lib.Dec.{eqb}
-use Rattle.sets.specs.Lists.{Elem, first, later, _&_, imp, all, empty, concat, same, below}
-use Rattle.sets.specs.Bits.{outBit, evalBit, acceptBit, has, mem, sites, join, less, within, grant, joins, meets}
+use Rattle.sets.specs.Lists.{Elem, first, later, _&_, imp, all, empty, same, below}
+use Rattle.sets.specs.Bits.{outBit, evalBit, acceptBit, has, mem, sites, join, within, grant}
 use Rattle.sets.proofs.Lists.{eq-eqb, and-l, and-r, and-i, imp-e, split, eqb-eq, all-at, any-in, empty-l, empty-r, empty-only, empty-concat, same-eq}
 use Rattle.sets.proofs.Tables.{getD-table, below-in}
 use Rattle.sets.proofs.Bits.{has-none, has-self, has-less, or-has-l, or-has-r, within-has, grant-has, joins-has, meets-has, sites-in, in-sites}
 use Rattle.klaim.specs.declared.Loc.{Loc}
 use Rattle.klaim.specs.declared.Slot.{Slot}
 use Rattle.klaim.specs.declared.Slot.the-variants.{Value, Bind}
-use Rattle.klaim.specs.Process.{Tree, nilT, parT, repT, outT, getT, evalT, acceptT}
+use Rattle.klaim.specs.Process.{Tree, parT, repT, outT, getT, evalT, acceptT}
 use Rattle.klaim.specs.Net.{Root, Net, Estimate, home, boxAt, may, holds}
-use Rattle.klaim.specs.Analysis.{reach, placeSet, reached, slotMatch, matches, choices, firstNot, least, Verdict, accepted, brokenT, brokenQ, verdictOf, stands, bound, outRule, getRule, evalRule, broken, brokenTuple, brokenLine, process, verdict}
+use Rattle.klaim.specs.Analysis.{reach, placeSet, reached, slotMatch, matches, choices, firstNot, least, accepted, verdictOf, stands, bound, outRule, getRule, evalRule, broken, brokenTuple, brokenLine, process, verdict}
 use Rattle.klaim.specs.Report.{sure, uses, evalAdds, adds, rootAdds, holdAdds, reportAt, addsNothing, door}
 use Rattle.klaim.specs.State.{Bindings, unbound, homePolicy, boxPolicy}
 use Rattle.klaim.specs.Engine.{value, bindAll}
 use Rattle.klaim.specs.Invariant.{allBelow}
-use Rattle.klaim.proofs.Bindings.{Holds, Each, unbound-holds, BindsLow, bind-holds, LocOk, value-in, each-bound}
+use Rattle.klaim.proofs.Bindings.{Holds, unbound-holds, BindsLow, bind-holds, LocOk, value-in, each-bound}
 
 -- a choice that passes
 choices-at : (rch : Loc → List ℕ) (val : Loc → ℕ) (xs : List Loc) → ((x : Loc) → Elem x xs → Elem (val x) (rch x)) → (f : List ℕ → Bool) → choices (map rch xs) f ≡ true → f (map val xs) ≡ true

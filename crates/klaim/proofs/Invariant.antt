@@ -2,31 +2,29 @@
 -- Assumes nothing.
 use mathlib.Core.Path.{_≡_, refl, sym, ap, subst, _∙_}
 use mathlib.Core.Logic.{_⊎_, inl, inr}
-use mathlib.Core.Bool.{Bool, true, false, not, cond, false≢true}
+use mathlib.Core.Bool.{Bool, true, false, not, false≢true}
 use mathlib.Core.List.{List, [], _∷_, _++_, map}
 use mathlib.Core.Option.{Option, none, some}
 use Prim.Native.Nat.{ℕ, zero, suc, _+_, _<_, _≤_}
 use native.Mathlib.Omega.{arith}
-use lib.Dec.{eqb, leb, ltb}
-use lib.ListN.{length, getD, getElem?, length-append, length-map, length-replicate, List·getD-append}
+use lib.Dec.{leb, ltb}
+use lib.ListN.{length, getElem?, length-append, length-map, length-replicate, List·getD-append}
 use Rattle.sets.specs.Lists.{Elem, first, later, All, done, more, _&_, either, all, empty, splice, concat, among, _∪_}
-use Rattle.sets.specs.Bits.{outBit, inBit, readBit, evalBit, acceptBit}
-use Rattle.sets.proofs.Lists.{and-l, and-r, and-i, in-none, all-at, all-i, all-none, all-turn, all-snoc, all-append, all-map, all-splice, all-get, among-in, empty-none, All-get, All-append, All-splice, All-turn, All-in, All-concat, All-union, ltb-lt, lt-ltb, leb-le, in-concat, in-right, in-left, in-map, cond-at, length-union}
+use Rattle.sets.specs.Bits.{inBit, readBit}
+use Rattle.sets.proofs.Lists.{and-l, and-r, in-none, all-at, all-i, all-none, all-turn, all-snoc, all-append, all-map, all-splice, all-get, among-in, empty-none, All-get, All-append, All-splice, All-turn, All-in, All-concat, ltb-lt, lt-ltb, leb-le, in-concat, in-right, in-map, cond-at, length-union}
 use Rattle.sets.proofs.Tables.{length-table}
 use Rattle.klaim.specs.declared.Loc.{Loc}
 use Rattle.klaim.specs.declared.Slot.{Slot}
 use Rattle.klaim.specs.declared.Slot.the-variants.{Value}
 use Rattle.klaim.specs.Process.{Line, Nil, Par, Rep, Out, In, Read, Eval, Accept, lineAt, children, boxesOf, slotsOf, template, sitesIn, usedIn, boundIn, Tree, node, tree, ordered, free, move}
-use Rattle.klaim.specs.Net.{Root, Net, Estimate}
-use Rattle.klaim.specs.Reader.{Answer, refused, gives, World, readArrival, readBoth, andThen}
-use Rattle.klaim.specs.Analysis.{matches}
-use Rattle.klaim.specs.Report.{door}
+use Rattle.klaim.specs.Net.{Root, Net}
+use Rattle.klaim.specs.Reader.{Answer, refused, gives, World, readBoth}
 use Rattle.klaim.specs.State.{Bindings, Thread, State, unbound, isNil, settle, homePolicy, boxPolicy, rootThread, begin, start}
-use Rattle.klaim.specs.Engine.{Event, silent, performed, Result, refuse, joined, bringRead, bring, value, bindAll, agrees, to, under, after, Plan, stop, quiet, act, getPlan, acceptPlan, plan, permits, limit, finish, stepOf, step}
+use Rattle.klaim.specs.Engine.{Event, silent, Result, joined, bringRead, bring, value, bindAll, agrees, to, under, after, Plan, stop, quiet, act, getPlan, acceptPlan, plan, permits, limit, finish, stepOf, step}
 use Rattle.klaim.specs.Invariant.{allBelow, lineFits, distinct, ArrivalOk, ThreadOk, Invariant}
 use Rattle.klaim.proofs.Reader.{RootOk, NetOk, EstimateOk, ArrivalRead, then-gives, arrival-read, both-read}
 use Rattle.klaim.proofs.Process.{child-line, tree-node, tree-old, free-new, ordered-join, used-free, child-free}
-use Rattle.klaim.proofs.Bindings.{BoundTo, Holds, Each, unbound-holds, BindsLow, bind-long, bind-holds, bind-kept, bind-new, each-all, LocOk, value-low}
+use Rattle.klaim.proofs.Bindings.{BoundTo, Holds, unbound-holds, BindsLow, bind-long, bind-holds, bind-kept, bind-new, each-all, LocOk, value-low}
 
 -- a thread on any line
 pub record Standing (n : ℕ) (ls : List Line) (th : Thread) : Type 0 where
@@ -205,7 +203,7 @@ module _ (st : State) (i : Invariant st) (th : Thread) (o : Standing (st .net .s
 
     out-low : (a : ℕ) (g : Loc) (fs : List Loc) → lineAt (st .lines) (th .line) ≡ Out a g fs → allBelow n (map (value (th .site) (th .bindings)) (g ∷ fs)) ≡ true
     unfolding allBelow slotsOf
-    out-low a g fs e = all-map (λ v. ltb v n) (value (th .site) (th .bindings)) (g ∷ fs) (all-i _ (g ∷ fs) (λ x j. lt-ltb _ n (loc-low (Out a g fs) e x (in-map Value j))))
+    out-low a g fs e = all-map (λ v. ltb v n) (value (th .site) (th .bindings)) (g ∷ fs) ∙ (all-i _ (g ∷ fs) (λ x j. lt-ltb _ n (loc-low (Out a g fs) e x (in-map Value j))))
 
     plan-line : (l : Line) → lineAt (st .lines) (th .line) ≡ l → PlanOk n (plan st k th m r l)
     unfolding plan children template slotsOf empty under boxPolicy
@@ -296,7 +294,7 @@ joined-ok st ms i a = record {
   threads-few = i .threads-few;
   tuples-few = i .tuples-few;
   lines-ordered = ordered-join (st .lines) ms (i .lines-ordered) (a .lines-ordered);
-  lines-fit = all-append (lineFits n) (st .lines) moved (i .lines-fit) (all-map (lineFits n) (move d) ms (all-turn (lineFits n) _ ms (λ l t. fits-move n d l ∙ t) (a .lines-fit)));
+  lines-fit = all-append (lineFits n) (st .lines) moved (i .lines-fit) (all-map (lineFits n) (move d) ms ∙ (all-turn (lineFits n) _ ms (λ l t. fits-move n d l ∙ t) (a .lines-fit)));
   stand-fit = i .stand-fit;
   stand-few = i .stand-few;
   stand-distinct = i .stand-distinct;

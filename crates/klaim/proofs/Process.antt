@@ -2,7 +2,7 @@
 -- Assumes nothing.
 use mathlib.Core.Path.{_≡_, refl, sym, ap, ap₂, subst, _∙_}
 use mathlib.Core.Logic.{_⊎_, inl, inr}
-use mathlib.Core.Bool.{Bool, true, false, not}
+use mathlib.Core.Bool.{true, not}
 use mathlib.Core.List.{List, [], _∷_, _++_, map}
 use Prim.Native.Nat.{ℕ, zero, suc, _+_, _-_, _≤_, _<_}
 use native.Mathlib.Omega.{arith}
@@ -220,7 +220,7 @@ ordered-move d b n [] t = refl
 ordered-move d b n (l ∷ ls) t =
     and-i
     (subst (λ (cs : List ℕ). all (λ c. ltb (d + b) c & ltb c (d + n)) cs ≡ true) (sym (children-move d l))
-    (all-map _ (λ c. d + c) (children l) (all-turn _ _ (children l) (λ c s. and-i (lt-ltb (d + b) (d + c) (omega (arith, ltb-lt b c (and-l _ _ s)))) (lt-ltb (d + c) (d + n) (omega (arith, ltb-lt c n (and-r _ _ s))))) (and-l _ _ t))))
+    (all-map _ (λ c. d + c) (children l) ∙ (all-turn _ _ (children l) (λ c s. and-i (lt-ltb (d + b) (d + c) (omega (arith, ltb-lt b c (and-l _ _ s)))) (lt-ltb (d + c) (d + n) (omega (arith, ltb-lt c n (and-r _ _ s))))) (and-l _ _ t))))
     (subst (λ (i : ℕ). orderedFrom i (d + n) (map (move d) ls) ≡ true) step (ordered-move d (suc b) n ls (and-r _ _ t)))
   where
     step : d + suc b ≡ suc (d + b)

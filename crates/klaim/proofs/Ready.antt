@@ -8,14 +8,14 @@ use Prim.Native.Nat.{ℕ, zero, suc, _<_, _≤_}
 use native.Mathlib.Omega.{arith}
 use lib.Dec.{leb}
 use lib.ListN.{length, getElem?}
-use Rattle.sets.specs.Lists.{Elem, first, later, any, splice, below, among}
+use Rattle.sets.specs.Lists.{Elem, first, later, any, splice, among}
 use Rattle.sets.specs.Bits.{inBit, readBit}
 use Rattle.sets.proofs.Lists.{any-i, among-in, leb-le, nleb-lt}
 use Rattle.sets.proofs.Tables.{below-in}
 use Rattle.klaim.specs.Process.{Line, Nil, Par, Rep, Out, In, Read, Eval, Accept, lineAt, tree}
 use Rattle.klaim.specs.Report.{door}
 use Rattle.klaim.specs.State.{Thread, State}
-use Rattle.klaim.specs.Engine.{Plan, getPlan, acceptPlan, plan, finish, stepOf, step, performs, runnable}
+use Rattle.klaim.specs.Engine.{getPlan, acceptPlan, plan, finish, stepOf, step, performs, runnable}
 
 -- past the end there is nothing
 no-elem : {A : Type 0} (xs : List A) (m : ℕ) → length xs ≤ m → getElem? xs m ≡ none

@@ -3,38 +3,33 @@
 use mathlib.Core.Path.{_≡_, refl, sym, ap, subst, _∙_}
 use mathlib.Core.Logic.{_⊎_, inl, inr}
 use mathlib.Core.Bool.{Bool, true, false, not, cond, false≢true}
-use mathlib.Core.List.{List, [], _∷_, _++_, map}
+use mathlib.Core.List.{List, [], _∷_}
 use mathlib.Core.Option.{Option, none, some}
-use Prim.Native.Nat.{ℕ, zero, suc, _+_, _*_, _/_, _%_, _<_, _≤_, _^_}
+use Prim.Native.Nat.{ℕ, _+_, _*_, _/_, _%_, _<_, _^_}
 use native.Mathlib.Omega.{arith}
-use lib.Dec.{eqb, leb}
+use lib.Dec.{leb}
 use lib.ListN.{length, getD, getElem?, replicate}
-use Rattle.sets.specs.Lists.{Elem, first, later, All, done, more, _&_, either, all, splice, concat, table, among}
-use Rattle.sets.specs.Bits.{outBit, inBit, readBit, evalBit, acceptBit, has, mem}
-use Rattle.sets.proofs.Lists.{and-l, and-r, all-get, among-in, in-map, All-get, All-append, All-splice, All-turn, All-in, In-All, All-concat-in, cond-at}
+use Rattle.sets.specs.Lists.{Elem, first, All, done, more, _&_, either, splice, among}
+use Rattle.sets.specs.Bits.{has}
+use Rattle.sets.proofs.Lists.{all-get, in-map, All-get, All-append, All-splice, All-turn, All-in, In-All, All-concat-in, cond-at, getD-same}
 use Rattle.sets.proofs.Tables.{getD-table}
 use Rattle.sets.proofs.Bits.{has-none, in-sites}
 use Rattle.klaim.specs.declared.Loc.{Loc}
 use Rattle.klaim.specs.declared.Slot.{Slot}
 use Rattle.klaim.specs.declared.Slot.the-variants.{Value}
-use Rattle.klaim.specs.Process.{Line, Nil, Par, Rep, Out, In, Read, Eval, Accept, lineAt, slotsOf, Tree, getT, evalT, acceptT, node, tree, ordered, move}
-use Rattle.klaim.specs.Net.{Root, Net, Estimate, home, may}
-use Rattle.klaim.specs.Reader.{Answer, refused, gives, World}
-use Rattle.klaim.specs.Analysis.{matches, accepted, verdict, process}
+use Rattle.klaim.specs.Process.{Line, Nil, Par, Rep, Out, In, Read, Eval, Accept, lineAt, slotsOf, Tree, getT, acceptT, node, tree}
+use Rattle.klaim.specs.Net.{Root, Net, Estimate, home}
+use Rattle.klaim.specs.Reader.{gives, World}
+use Rattle.klaim.specs.Analysis.{accepted, verdict}
 use Rattle.klaim.specs.Report.{reportAt, report, door}
-use Rattle.klaim.specs.State.{Bindings, Thread, State, unbound, isNil, settle, rootThread, begin}
-use Rattle.klaim.specs.Engine.{Event, silent, performed, Result, refuse, joined, value, bindAll, agrees, to, under, after, Plan, stop, quiet, act, getPlan, acceptPlan, plan, permits, limit, finish, stepOf, step}
+use Rattle.klaim.specs.State.{Thread, State, unbound, isNil, settle, rootThread, begin}
+use Rattle.klaim.specs.Engine.{Event, silent, performed, Result, refuse, joined, value, agrees, to, under, after, Plan, stop, quiet, act, getPlan, acceptPlan, plan, permits, limit, finish, stepOf, step}
 use Rattle.klaim.specs.Invariant.{allBelow, Invariant}
 use Rattle.klaim.specs.Demand3.{listed, forbids, Permitted, Within}
 use Rattle.klaim.proofs.Process.{tree-node, tree-old}
 use Rattle.klaim.proofs.Invariant.{Standing, standing, loc-ok, binds-low}
 use Rattle.klaim.proofs.Bindings.{LocOk, BindsLow}
 use Rattle.klaim.proofs.Flow.{Fine, Used, Good, good-par-l, good-par-r, good-rep, good-out, good-eval, good-accept, good-get, out-stands, out-used, get-used, eval-used, accept-used, good-body, good-arrival, good-root, root-lawful, tuple-stands}
-
-getD-zeros : (n i : ℕ) → getD {A = ℕ} (replicate n 0) i 0 ≡ 0
-getD-zeros zero i = refl
-getD-zeros (suc n) zero = refl
-getD-zeros (suc n) (suc i) = getD-zeros n i
 
 -- what the guard tests is that neither policy forbids the right
 pub permits-allows : (N : Net) (th : Thread) (t right : ℕ) → permits N th t right ≡ true → forbids N th t right ≡ false
@@ -188,7 +183,7 @@ module _ (st : State) (i : Invariant st) where
     used-permits z th t right u = go (used-cases th t right u)
       where
         zero-byte : getD (report N E) (32 * th .site + t) 0 ≡ 0
-        zero-byte = ap (λ (l : List ℕ). getD l (32 * th .site + t) 0) z ∙ getD-zeros 1024 (32 * th .site + t)
+        zero-byte = ap (λ (l : List ℕ). getD l (32 * th .site + t) 0) z ∙ getD-same 0 1024 (32 * th .site + t)
 
         go : (permits N th t right ≡ true) ⊎ (has (getD (report N E) (32 * th .site + t) 0) right ≡ true) → permits N th t right ≡ true
         go (inl h) = h

@@ -8,7 +8,7 @@ use Prim.Native.Nat.{ℕ, suc, _+_, _<_, _≤_}
 use native.Mathlib.Omega.{arith}
 use lib.Dec.{eqb, leb, ltb}
 use lib.ListN.{length}
-use Rattle.sets.specs.Lists.{Elem, first, later, All, done, more, _&_, either, any, only, keep, empty, same, _∪_}
+use Rattle.sets.specs.Lists.{Elem, first, later, All, done, more, _&_, any, only, keep, empty, same, _∪_}
 use Rattle.sets.proofs.Lists.{and-l, and-r, imp-e, not-no, neither-l, neither-r, cond-at, eqb-eq, eq-eqb, leb-le, nleb-lt, lt-ltb, all-at, all-i, ltb-lt, none-all, length-keep, All-append, All-turn, All-in, and-i, not-yes, any-none, any-snoc, same-eq, same-refl, map-out, keep-out, keep-snoc, map-append}
 use Rattle.klaim.specs.Limits.{siteLimit}
 use Rattle.klaim.specs.Process.{template, clash}

@@ -12,34 +12,30 @@ use lib.ListN.{length, drop, length-drop}
 use lib.Seq.{getD-drop}
 use borrow.Author.Tests.{leb-true, le-leb, lt-leb}
 use Rattle.sets.specs.Lists.{_&_, all}
+use Rattle.sets.proofs.Lists.{and-true}
 use Rattle.klaim.specs.Rows.{at, given, _>>=_, each, fields}
 use Rattle.text.specs.declared.Name.{Name}
 use Rattle.text.specs.Fields.{upTo, Named}
 use Rattle.lines.specs.declared.Four.{Four}
 use Rattle.lines.specs.Lines.{names, fitAll, FourAt}
 
-and-true : (a : Bool) → a ≡ a & true
-unfolding _&_
-and-true true = refl
-and-true false = refl
-
 -- how many fields fit, by their number
 module _ (k : ℕ) (f : Four) where
   pub fit-one : f .count ≡ 1 → upTo k (f .a) ≡ fitAll k f
   unfolding fitAll names all _&_
-  fit-one e = rw e (and-true (upTo k (f .a)))
+  fit-one e = rw e (sym (and-true (upTo k (f .a))))
 
   pub fit-two : f .count ≡ 2 → (upTo k (f .a) & upTo k (f .b)) ≡ fitAll k f
   unfolding fitAll names all _&_
-  fit-two e = rw e (ap (λ (x : Bool). upTo k (f .a) & x) (and-true (upTo k (f .b))))
+  fit-two e = rw e (ap (λ (x : Bool). upTo k (f .a) & x) (sym (and-true (upTo k (f .b)))))
 
   pub fit-three : f .count ≡ 3 → (upTo k (f .a) & (upTo k (f .b) & upTo k (f .c))) ≡ fitAll k f
   unfolding fitAll names all _&_
-  fit-three e = rw e (ap (λ (x : Bool). upTo k (f .a) & (upTo k (f .b) & x)) (and-true (upTo k (f .c))))
+  fit-three e = rw e (ap (λ (x : Bool). upTo k (f .a) & (upTo k (f .b) & x)) (sym (and-true (upTo k (f .c)))))
 
   pub fit-four : f .count ≡ 4 → (upTo k (f .a) & (upTo k (f .b) & (upTo k (f .c) & upTo k (f .d)))) ≡ fitAll k f
   unfolding fitAll names all _&_
-  fit-four e = rw e (ap (λ (x : Bool). upTo k (f .a) & (upTo k (f .b) & (upTo k (f .c) & x))) (and-true (upTo k (f .d))))
+  fit-four e = rw e (ap (λ (x : Bool). upTo k (f .a) & (upTo k (f .b) & (upTo k (f .c) & x))) (sym (and-true (upTo k (f .d)))))
 
   pub fit-none : (f .count ≡ 1 → ⊥) → (f .count ≡ 2 → ⊥) → (f .count ≡ 3 → ⊥) → (f .count ≡ 4 → ⊥) → false ≡ fitAll k f
   unfolding fitAll _&_

@@ -5,15 +5,14 @@ use mathlib.Core.Bool.{Bool, true, false, cond}
 use mathlib.Core.List.{List, [], _∷_}
 use Prim.Native.Nat.{ℕ, _+_, _-_, _<_, _≤_}
 use native.Mathlib.Omega.{arith}
-use lib.Dec.{eqb, ltb}
 use lib.ListN.{length, take, drop, length-take, length-drop}
 use lib.Seq.{take-all}
 use borrow.Author.Tests.{eq-eqb, ne-eqb, lt-ltb, le-ltb}
 use Rattle.sets.specs.Lists.{table}
 use Rattle.klaim.specs.Limits.{inputLimit}
-use Rattle.klaim.specs.Analysis.{Verdict, accepted, brokenT, brokenQ, verdict}
+use Rattle.klaim.specs.Analysis.{Verdict, accepted, verdict}
 use Rattle.klaim.specs.Report.{report}
-use Rattle.klaim.specs.Reader.{refused, gives, World, readBoth}
+use Rattle.klaim.specs.Reader.{refused, gives, readBoth}
 use Rattle.klaim.specs.Listing.{numeral, row, homeCount, usedCount, listVerdict, listRead, before, netPart, estimatePart, listing}
 use Rattle.tables.specs.View.{netView, estimateView}
 use Rattle.writer.specs.Wrote.{Wrote}

@@ -3,33 +3,32 @@
 use mathlib.Core.Path.{_≡_, refl, sym, ap, ap₂, subst, _∙_}
 use mathlib.Core.Bool.{Bool, true, false, not, cond}
 use mathlib.Core.List.{List, [], _∷_, _++_, map}
-use Prim.Native.Nat.{ℕ, zero, suc, _+_, _<_, _≤_}
+use Prim.Native.Nat.{ℕ, _+_, _<_, _≤_}
 use native.Mathlib.Omega.{arith}
 use native.Mathlib.Decide.{ℕ-discrete}
-use lib.Dec.{eqb, leb, ltb}
+use lib.Dec.{eqb, ltb}
 use lib.ListN.{length, replicate, length-replicate}
 use borrow.Author.Tests.{eq-eqb, ne-eqb}
-use Rattle.sets.specs.Lists.{All, done, _&_, all, keep, empty, table, tableFrom, below, same}
+use Rattle.sets.specs.Lists.{done, _&_, all, keep, empty, table, tableFrom, below, same}
 use Rattle.sets.proofs.Tables.{length-table}
 use Rattle.klaim.specs.Process.{Line, ordered}
 use Rattle.klaim.specs.Rows.{Row, groupR, groupD, groupT}
 use Rattle.klaim.specs.Net as Spec
-use Rattle.klaim.specs.Reader.{aNet, Answer, refused, gives, andThen, ofGroup, judge, scan, gather, readRows, sizeOf, inTurn, namedOnce, rootsClosed, whole, numbersOf, linesOf, netOf, wholeNet, readNet}
+use Rattle.klaim.specs.Reader.{aNet, Answer, refused, gives, andThen, ofGroup, judge, readRows, sizeOf, inTurn, namedOnce, rootsClosed, whole, numbersOf, linesOf, netOf, wholeNet, readNet}
 use Rattle.klaim.proofs.Above.{last-none}
 use Rattle.tables.specs.View.{rowsView, rootsView, linesView, netView}
 use Rattle.tables.specs.declared.Net.{Net}
 use Rattle.forms.specs.declared.RowData.{RowData}
 use Rattle.forms.specs.Forms.{rowData, rowView, rowGood}
+use Rattle.judge.proofs.Limits.{group-is}
 use Rattle.scan.specs.declared.Tally.{Tally}
 use Rattle.scan.specs.Progress.{rowsLeft, Progress}
 use Rattle.scan.specs.Numbers.{judgedBy}
 use Rattle.scan.specs.Tallies.{countedOf, startOf}
-use Rattle.scan.proofs.Numbers.{group-is}
 use Rattle.scan.proofs.Progress.{progress-none, progress-more, progress-bad, progress-end, progress-refused, going-on, gather-none}
 use Rattle.repeats.proofs.Rows.{as-kept}
 use Rattle.repeats.specs.Kept.{KeysAre}
 use Rattle.nets.specs.declared.Refusal.{Refusal}
-use Rattle.nets.specs.declared.NetRead.{NetRead}
 use Rattle.nets.specs.Rows.{NetTables, NetTally, Room, Passed}
 use Rattle.nets.specs.Read.{netAnswer, wholeNumber, refusalOf}
 use Rattle.nets.proofs.Rows.{tally-more, room-more, empty-is}

@@ -1,25 +1,15 @@
 -- The tests of a row's place, one by one.
 -- Assumes nothing.
-use mathlib.Core.Path.{_≡_, refl, sym, ap, _∙_}
+use mathlib.Core.Path.{_≡_, refl, sym}
 use mathlib.Core.Bool.{Bool, true, false, not}
 use Prim.Native.Nat.{ℕ, _<_, _≤_}
-use native.Mathlib.Omega.{arith}
 use lib.Dec.{eqb, leb}
 use borrow.Author.Tests.{eq-eqb, ne-eqb, le-leb, lt-leb}
 use Rattle.sets.specs.Lists.{_&_, imp}
+use Rattle.sets.proofs.Lists.{and-false}
 use Rattle.klaim.specs.Rows.{groupN, groupQ}
 use Rattle.scan.specs.declared.Tally.{Tally}
 use Rattle.nets.specs.Rows.{placedOf}
-
-and-false : (a : Bool) → a & false ≡ false
-unfolding _&_
-and-false true = refl
-and-false false = refl
-
-and-true : (a : Bool) → a & true ≡ a
-unfolding _&_
-and-true true = refl
-and-true false = refl
 
 module _ (g : ℕ) (t : Tally) where
   pub placed-last : g < t .last → false ≡ placedOf g t

@@ -1,34 +1,35 @@
 -- One row more in the tables and the tally of a net, and the tests on the rows above.
 -- Assumes nothing.
 use mathlib.Core.Path.{_≡_, refl, sym, ap, ap₂, subst, _∙_}
-use mathlib.Core.Logic.{_⊎_, ⊎-elim}
+use mathlib.Core.Logic.{⊎-elim}
 use mathlib.Core.Bool.{Bool, true, false, not, cond, false≢true}
 use mathlib.Core.List.{List, [], _∷_, _++_, map}
-use Prim.Native.Nat.{ℕ, zero, suc, _+_, _<_, _≤_}
+use Prim.Native.Nat.{ℕ, suc, _+_, _<_, _≤_}
 use native.Mathlib.Nat.{zero-add}
 use native.Mathlib.Decide.{ℕ-discrete}
 use native.Mathlib.Omega.{arith}
 use lib.Dec.{eqb, leb}
 use lib.ListN.{length, length-append, length-map}
 use borrow.Author.Tests.{eq-eqb, ne-eqb}
-use Rattle.sets.specs.Lists.{All, done, more, _&_, either, imp, any, empty, below, same}
-use Rattle.sets.proofs.Lists.{and-l, and-r, imp-e, eqb-eq, leb-le, nleb-lt, neither-l, neither-r, All-append}
+use Rattle.stores.proofs.Shapes.{size-row as size-n}
+use Rattle.sets.specs.Lists.{done, more, _&_, either, imp, any, empty, below, same}
+use Rattle.sets.proofs.Lists.{and-l, and-r, imp-e, eqb-eq, leb-le, nleb-lt, All-append, or-false, and-no}
 use Rattle.sets.proofs.Tables.{length-table}
 use Rattle.klaim.specs.Limits.{siteLimit, tupleLimit, threadLimit, lineLimit}
 use Rattle.klaim.specs.Rows.{Row, groupN, groupR, groupD, groupT, groupL, groupQ, groupA}
-use Rattle.klaim.specs.Reader.{aNet, judge, inLimits, key, repeated, ofGroup, present, full, headed, own, inOrder, sizeOf, siteCount, gather, pairPlace, boxPlace, rootOf, numbersOf, linesOf, nth}
+use Rattle.klaim.specs.Reader.{aNet, judge, key, repeated, ofGroup, present, full, headed, own, inOrder, sizeOf, siteCount, gather, pairPlace, boxPlace, rootOf, numbersOf, linesOf}
 use Rattle.klaim.proofs.Above.{group-other, map-other, map-own, last-snoc}
 use Rattle.tables.specs.View.{rowsView, rootsView, linesView}
 use Rattle.forms.specs.declared.RowData.{RowData}
 use Rattle.forms.specs.Forms.{rowData, rowView, rowGood, tupleGroup}
 use Rattle.forms.proofs.RowForms.{tuple-case}
-use Rattle.stores.proofs.Shapes.{size-row as size-n}
+use Rattle.judge.proofs.Limits.{group-is}
 use Rattle.scan.specs.declared.Tally.{Tally}
 use Rattle.scan.specs.Tallies.{countedOf}
 use Rattle.scan.specs.Tallies as Tallies
 use Rattle.scan.specs.Numbers.{earlyOf, lateOf, numberOf, judgedBy}
-use Rattle.scan.proofs.Numbers.{group-is, formed, not-formed}
-use Rattle.scan.proofs.Tallies.{and-under, turn-own, turn-other, group-none, size-row, own-row}
+use Rattle.scan.proofs.Numbers.{formed, not-formed}
+use Rattle.scan.proofs.Tallies.{turn-own, turn-other, group-none, size-row, own-row}
 use Rattle.repeats.specs.Kept.{Kept, KeysAre}
 use Rattle.repeats.proofs.Keys.{keys-other}
 use Rattle.nets.specs.Rows.{NetTables, NetTally, Room, fullOf, placedOf, Passed}
@@ -167,11 +168,6 @@ module _ {above : List Row} {homes boxes tuples roots lines : List ℕ} {nt nr n
   unfolding linesView linesOf
   count-q = sym (length-map (ofGroup groupQ above) (λ r. r .process)) ∙ sym (ap length (T .linesIs)) ∙ length-table nl _
 
-either-false : (a : Bool) → either a false ≡ a
-unfolding either
-either-false true = refl
-either-false false = refl
-
 -- 2, read off the tally
 full-by : (g k a b c : ℕ) → (g ≡ groupT → k ≡ a) → (g ≡ groupL → k ≡ b) → (g ≡ groupQ → k ≡ c) → (g ≡ groupA → k ≡ 0) → full aNet g k ≡ cond (eqb g groupT) (leb tupleLimit a) (cond (eqb g groupL) (leb threadLimit b) (eqb g groupQ & leb lineLimit c))
 unfolding full present either _&_
@@ -182,15 +178,15 @@ full-by g k a b c t l q s = at-t (eqb g groupT) refl
     at-a false e = refl
 
     at-q : (x : Bool) → eqb g groupQ ≡ x → either (x & leb lineLimit (0 + k)) (eqb g groupA & leb tupleLimit k) ≡ x & leb lineLimit c
-    at-q true e = let h : g ≡ groupQ = eqb-eq e in rw (h, q h, zero-add c) (either-false (leb lineLimit c))
+    at-q true e = let h : g ≡ groupQ = eqb-eq e in rw (h, q h, zero-add c) (or-false (leb lineLimit c))
     at-q false e = at-a (eqb g groupA) refl
 
     at-l : (x : Bool) → eqb g groupL ≡ x → either (x & leb threadLimit k) (either (eqb g groupQ & leb lineLimit (0 + k)) (eqb g groupA & leb tupleLimit k)) ≡ cond x (leb threadLimit b) (eqb g groupQ & leb lineLimit c)
-    at-l true e = let h : g ≡ groupL = eqb-eq e in rw (h, l h) (either-false (leb threadLimit b))
+    at-l true e = let h : g ≡ groupL = eqb-eq e in rw (h, l h) (or-false (leb threadLimit b))
     at-l false e = at-q (eqb g groupQ) refl
 
     at-t : (x : Bool) → eqb g groupT ≡ x → either (x & leb tupleLimit k) (either (eqb g groupL & leb threadLimit k) (either (eqb g groupQ & leb lineLimit (0 + k)) (eqb g groupA & leb tupleLimit k))) ≡ cond x (leb tupleLimit a) (cond (eqb g groupL) (leb threadLimit b) (eqb g groupQ & leb lineLimit c))
-    at-t true e = let h : g ≡ groupT = eqb-eq e in rw (h, t h) (either-false (leb tupleLimit a))
+    at-t true e = let h : g ≡ groupT = eqb-eq e in rw (h, t h) (or-false (leb tupleLimit a))
     at-t false e = at-l (eqb g groupL) refl
 
 module _ (row : RowData) (t : Tally) (above : List Row) {homes boxes tuples roots lines : List ℕ} (T : NetTables above homes boxes tuples (t .tuples) roots (t .roots) lines (t .lines)) (Y : NetTally above t) where
@@ -244,10 +240,6 @@ module _ (row : RowData) (t : Tally) (above : List Row) {homes boxes tuples root
 six : (g : ℕ) → 0 < g → (g ≡ 1 → ⊥) → (g ≡ 2 → ⊥) → (g ≡ 3 → ⊥) → (g ≡ 4 → ⊥) → (g ≡ 5 → ⊥) → g ≤ 6 → g ≡ 6
 six g a b c d e f h = omega arith
 
-no-more : (a : Bool) → false & a ≡ false
-unfolding _&_
-no-more a = refl
-
 no-rows : (a : Bool) (f : Row → Bool) (xs : List Row) → length xs ≡ 0 → a & any f xs ≡ false
 unfolding _&_ any
 no-rows true f [] z = refl
@@ -260,7 +252,7 @@ unfolding repeated placedOf
 seen-rest row t above Y e p s r d u l = go (eqb (row .group) groupN) refl
   where
     q-row : row .group ≡ groupQ → false ≡ not (eqb (rowData row .group) groupQ) & any (λ b. same (key b) (key (rowData row))) above
-    q-row h = sym (ap (λ (g : ℕ). not (eqb g groupQ) & any (λ b. same (key b) (key (rowData row))) above) (e ∙ h) ∙ no-more (any (λ b. same (key b) (key (rowData row))) above))
+    q-row h = sym (ap (λ (g : ℕ). not (eqb g groupQ) & any (λ b. same (key b) (key (rowData row))) above) (e ∙ h) ∙ and-no (any (λ b. same (key b) (key (rowData row))) above) refl)
 
     n-row : (xs : List Row) → length xs ≡ 0 → false ≡ not (eqb (rowData row .group) groupQ) & any (λ b. same (key b) (key (rowData row))) xs
     n-row xs z = sym (none-above (not (eqb (rowData row .group) groupQ)) xs z)

@@ -1,16 +1,14 @@
 -- The tests over a whole net, one by one.
 -- Assumes nothing.
-use mathlib.Core.Path.{_≡_, refl, sym, ap, _∙_}
+use mathlib.Core.Path.{_≡_}
 use mathlib.Core.Bool.{Bool, true, false, not, cond}
 use mathlib.Core.List.{List}
 use Prim.Native.Nat.{ℕ}
 use lib.Dec.{ltb}
 use lib.ListN.{length}
 use Rattle.sets.specs.Lists.{_&_, all}
-use Rattle.sets.proofs.Tables.{length-table}
 use Rattle.klaim.specs.Process.{Line, ordered}
 use Rattle.klaim.specs.Reader.{namedOnce, rootsClosed}
-use Rattle.tables.specs.View.{linesView}
 use Rattle.nets.specs.Read.{wholeNumber}
 
 module _ {turn : Bool} (ls : List Line) (n : ℕ) (roots : List ℕ) (long : length ls ≡ n) where

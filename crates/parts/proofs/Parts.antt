@@ -11,6 +11,7 @@ use lib.ListN.{length, take, drop, getD, length-drop, drop-of-length-le}
 use lib.Seq.{drop-cons, drop-length}
 use borrow.Author.Tests.{ne-eqb}
 use Rattle.sets.specs.Lists.{_&_, either, same}
+use Rattle.sets.proofs.Lists.{and-true, and-false}
 use Rattle.klaim.specs.Listing.{before, estimatePart}
 use Rattle.parts.specs.Parts.{begins, dotAt}
 
@@ -28,20 +29,10 @@ begins-next xs i =
     let e : i + 1 - 1 ≡ i = omega arith in
     begins-later xs (i + 1) (λ h. omega arith) ∙ ap (λ (k : ℕ). eqb (getD xs k 0) 10) e
 
-none : (a : Bool) → a & false ≡ false
-unfolding _&_
-none true = refl
-none false = refl
-
-all : (a : Bool) → a & true ≡ a
-unfolding _&_
-all true = refl
-all false = refl
-
 short : (ys : List ℕ) → length ys < 2 → same (take 2 ys) (46 ∷ 10 ∷ []) ≡ false
 unfolding same
 short [] h = refl
-short (y ∷ []) h = none (eqb y 46)
+short (y ∷ []) h = and-false (eqb y 46)
 short (y ∷ z ∷ ys) h = absurd (omega arith)
 
 -- too near the end for a row `.`
@@ -52,7 +43,7 @@ dot-short xs i h = short (drop i xs) (omega (arith, length-drop i xs))
 -- else the two bytes are compared
 pub dot-bytes : (xs : List ℕ) (i : ℕ) → 2 ≤ length xs - i → dotAt xs i ≡ (eqb (getD xs i 0) 46 & eqb (getD xs (i + 1) 0) 10)
 unfolding dotAt same
-dot-bytes xs i h = rw (drop-cons xs i 0 (omega arith), drop-cons xs (suc i) 0 (omega arith), add-one i, all)
+dot-bytes xs i h = rw (drop-cons xs i 0 (omega arith), drop-cons xs (suc i) 0 (omega arith), add-one i, and-true)
 
 -- one byte further
 step : (start : Bool) (b : ℕ) (xs : List ℕ) → (start & same (take 2 (b ∷ xs)) (46 ∷ 10 ∷ [])) ≡ false → before start (b ∷ xs) ≡ suc (before (eqb b 10) xs)

@@ -1,17 +1,18 @@
 -- Laws of bytes put into a table.
 -- Assumes nothing.
-use mathlib.Core.Path.{_≡_, refl, sym, ap, _∙_}
+use mathlib.Core.Path.{_≡_, refl, ap, _∙_}
 use native.Mathlib.Decide.{ℕ-discrete}
 use mathlib.Core.List.{List, [], _∷_, _++_}
 use Prim.Native.Nat.{ℕ, _+_, _*_, _≤_, _<_}
 use native.Mathlib.Nat.{zero-add}
 use native.Mathlib.Numerals.{add-one}
 use native.Mathlib.Omega.{arith}
-use lib.ListN.{length, getD, take, drop, set, length-take, length-drop, length-set}
-use lib.Seq.{getD-take, getD-drop, getD-set-same, getD-set-other, ext-getD}
+use lib.ListN.{length, getD, set, length-set}
+use lib.Seq.{getD-set-same, getD-set-other}
 use Rattle.sets.specs.Lists.{table}
 use Rattle.sets.proofs.Tables.{same-table, table-snoc}
-use Rattle.tables.specs.View.{fieldBytes, lineOf, linesView, rowAt, rowsView}
+use Rattle.tables.specs.View.{lineOf, linesView, rowAt, rowsView}
+use Rattle.tables.proofs.Bytes.{line-same, row-same}
 use Rattle.places.specs.Places.{Put}
 
 pub put-none : (t b : List ℕ) (from : ℕ) → Put t b from 0 t
@@ -28,45 +29,6 @@ put-more {t} {b} {l} {from} {n} P h = record {
     at : (j : ℕ) → j < n + 1 → Dec (j ≡ n) → getD (set l (from + n) (getD b n 0)) (from + j) 0 ≡ getD b j 0
     at j g (yes e) = rw e (getD-set-same l (from + n) (getD b n 0) 0 (omega (arith, P .long)))
     at j g (no e) = getD-set-other l (from + n) (from + j) (getD b n 0) 0 (λ z. e (omega arith)) ∙ P .done j (omega arith)
-
--- the same bytes in two tables
-bytes-same : (m : ℕ) (l b : List ℕ) (x y : ℕ) → x + m ≤ length l → y + m ≤ length b → ((j : ℕ) → j < m → getD l (x + j) 0 ≡ getD b (y + j) 0) → take m (drop x l) ≡ take m (drop y b)
-bytes-same m l b x y p q h =
-    ext-getD 0 (take m (drop x l)) (take m (drop y b)) (size l x p ∙ sym (size b y q)) (λ i g. at i (omega (arith, size l x p)))
-  where
-    size : (t : List ℕ) (z : ℕ) → z + m ≤ length t → length (take m (drop z t)) ≡ m
-    size t z s = simp (length-take, length-drop) (omega arith)
-
-    at : (i : ℕ) → i < m → getD (take m (drop x l)) i 0 ≡ getD (take m (drop y b)) i 0
-    at i g = getD-take m (drop x l) i 0 g ∙ getD-drop x l i 0 ∙ h i g ∙ sym (getD-take m (drop y b) i 0 g ∙ getD-drop y b i 0)
-
-pub line-same : (l b : List ℕ) (q p : ℕ) → 10 * q + 10 ≤ length l → 10 * p + 10 ≤ length b → ((j : ℕ) → j < 10 → getD l (10 * q + j) 0 ≡ getD b (10 * p + j) 0) → lineOf l q ≡ lineOf b p
-unfolding lineOf fieldBytes
-line-same l b q p u v h =
-    rw (h 0 (omega arith), h 1 (omega arith), h 2 (omega arith), h 3 (omega arith), h 4 (omega arith), h 5 (omega arith), bytes-same 4 l b (10 * q + 6) (10 * p + 6) (omega arith) (omega arith) (λ j g. later j g))
-  where
-    later : (j : ℕ) → j < 4 → getD l (10 * q + 6 + j) 0 ≡ getD b (10 * p + 6 + j) 0
-    later j g =
-        let x : 10 * q + 6 + j ≡ 10 * q + (6 + j) = omega arith in
-        let y : 10 * p + 6 + j ≡ 10 * p + (6 + j) = omega arith in
-        rw (x, y) (h (6 + j) (omega arith))
-
-row-same : (l b : List ℕ) (q p : ℕ) → 6 * q + 6 ≤ length l → 6 * p + 6 ≤ length b → ((j : ℕ) → j < 6 → getD l (6 * q + j) 0 ≡ getD b (6 * p + j) 0) → rowAt l q ≡ rowAt b p
-unfolding rowAt
-row-same l b q p u v h =
-    rw (first, bytes-same 5 l b (6 * q + 1) (6 * p + 1) (omega arith) (omega arith) (λ j g. later j g))
-  where
-    first : getD l (6 * q) 0 ≡ getD b (6 * p) 0
-    first =
-        let x : 6 * q + 0 ≡ 6 * q = omega arith in
-        let y : 6 * p + 0 ≡ 6 * p = omega arith in
-        rw (← x, ← y) (h 0 (omega arith))
-
-    later : (j : ℕ) → j < 5 → getD l (6 * q + 1 + j) 0 ≡ getD b (6 * p + 1 + j) 0
-    later j g =
-        let x : 6 * q + 1 + j ≡ 6 * q + (1 + j) = omega arith in
-        let y : 6 * p + 1 + j ≡ 6 * p + (1 + j) = omega arith in
-        rw (x, y) (h (1 + j) (omega arith))
 
 -- an entry that is put behind the first n keeps these
 pub grown : {A : Type 0} (n : ℕ) (f g : ℕ → A) (x : A) → ((k : ℕ) → k < n → f k ≡ g k) → f n ≡ x → table (n + 1) f ≡ table n g ++ (x ∷ [])

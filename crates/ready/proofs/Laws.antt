@@ -9,25 +9,22 @@ use native.Mathlib.Omega.{arith}
 use native.Mathlib.Nat.{add-zero, zero-add}
 use native.Mathlib.Decide.{ℕ-discrete}
 use borrow.Author.Tests.{eq-eqb, ne-eqb, le-ltb}
-use lib.Dec.{eqb, ltb}
+use lib.Dec.{ltb}
 use lib.ListN.{length, getD, getElem?, take}
 use lib.Seq.{length-take-le, getD-take}
 use Rattle.sets.specs.Lists.{Elem, first, later, _&_, either, any, keep, below, among, table}
-use Rattle.sets.proofs.Lists.{cond-at, any-i, All-in, All-get, lt-ltb}
+use Rattle.sets.proofs.Lists.{any-i, All-in, All-get, lt-ltb}
 use Rattle.sets.proofs.Tables.{getD-table, length-table}
-use Rattle.klaim.specs.declared.Loc.{Loc}
 use Rattle.klaim.specs.Process.{Line, lineAt, tree}
-use Rattle.klaim.specs.Process as Process
 use Rattle.klaim.specs.Analysis.{least}
 use Rattle.klaim.specs.Report.{door}
 use Rattle.klaim.specs.Reader.{refused, gives}
 use Rattle.klaim.specs.State as Spec
-use Rattle.klaim.specs.State.{isNil}
 use Rattle.klaim.specs.Invariant.{ThreadOk, Invariant}
 use Rattle.klaim.specs.Engine.{doorAlone, runnable, ready}
-use Rattle.tables.specs.View.{estimateView, lineByte, fieldBytes, lineBy, lineOf, linesView, actionLine, rowAt, rowsView, Decoded, InForm}
+use Rattle.tables.specs.View.{estimateView, fieldBytes, linesView, actionLine, rowAt, rowsView, Decoded, InForm}
 use Rattle.tables.specs.declared.Action.{Action}
-use Rattle.tables.proofs.Lines.{line-view, length-view}
+use Rattle.tables.proofs.Lines.{line-view, length-view, nil-test}
 use Rattle.threads.specs.declared.Thread.{Thread}
 use Rattle.threads.specs.View.{noThread, threadView, threadsView}
 use Rattle.threads.proofs.Laws.{threads-long, thread-some}
@@ -41,41 +38,15 @@ use Rattle.ready.specs.Runs.{standing, room, welcome, runs}
 use Rattle.ready.specs.Scan.{firstOf, placeOf, stepsIn, Serves, Testable, AllTestable, Found}
 use Rattle.ready.proofs.Runnable.{From, runnable-is, lowest-start, lowest-here, lowest-later, lowest-end}
 
--- a line of kind 0 is `nil`, and no other
-abbrev Other : Line → Type 0
-Other x = isNil x ≡ false
-
-cond-nil : (t : Bool) (x : Line) → Other x → isNil (cond t Process.Nil x) ≡ t
-unfolding isNil
-cond-nil true x h = refl
-cond-nil false x h = h
-
-by-nil : (j a b k : ℕ) (g : Loc) (fs : List ℕ) → isNil (lineBy j a b k g fs) ≡ eqb j 0
-unfolding lineBy isNil
-by-nil j a b k g fs =
-    cond-nil (eqb j 0) _
-    (cond-at Other (eqb j 1) (λ t. refl) (λ t.
-    cond-at Other (eqb j 2) (λ t. refl) (λ t.
-    cond-at Other (eqb j 3) (λ t. refl) (λ t.
-    cond-at Other (eqb j 4) (λ t. refl) (λ t.
-    cond-at Other (eqb j 5) (λ t. refl) (λ t.
-    cond-at Other (eqb j 6) (λ t. refl) (λ t. refl)))))))
-
+-- a thread that comes to line q stands there, unless that is `nil`
 module _ (n : ℕ) (bs : List ℕ) (q : ℕ) (h : q < n) where
-  nil-test : isNil (lineAt (linesView n bs) q) ≡ eqb (getD bs (10 * q) 0) 0
-  unfolding lineOf
-  nil-test =
-      ap isNil (line-view n bs q h)
-      ∙ by-nil (lineByte bs q 0) _ _ _ _ _
-      ∙ ap (λ (i : ℕ). eqb (getD bs i 0) 0) (add-zero (10 * q))
-
   pub stands-none : getD bs (10 * q) 0 ≡ 0 → 0 ≡ standing (linesView n bs) q
   unfolding standing
-  stands-none e = sym (ap (λ (b : Bool). cond b 0 1) (nil-test ∙ eq-eqb (getD bs (10 * q) 0) 0 e))
+  stands-none e = sym (ap (λ (b : Bool). cond b 0 1) (sym (nil-test n bs q h) ∙ eq-eqb (getD bs (10 * q) 0) 0 e))
 
   pub stands-one : (getD bs (10 * q) 0 ≡ 0 → ⊥) → 1 ≡ standing (linesView n bs) q
   unfolding standing
-  stands-one e = sym (ap (λ (b : Bool). cond b 0 1) (nil-test ∙ ne-eqb (getD bs (10 * q) 0) 0 e))
+  stands-one e = sym (ap (λ (b : Bool). cond b 0 1) (sym (nil-test n bs q h) ∙ ne-eqb (getD bs (10 * q) 0) 0 e))
 
 -- a search through a list: found at a place, or at none
 module _ {A : Type 0} (f : A → Bool) (d : A) where

@@ -17,7 +17,7 @@ use Rattle.klaim.specs.Process.{Line, Accept, children, move, ordered}
 use Rattle.klaim.proofs.Process.{child-line}
 use Rattle.tables.specs.View.{locOf, lineByte, fieldBytes, lineBy, lineOf, linesView}
 use Rattle.tables.proofs.Lines.{length-view, line-view}
-use Rattle.places.proofs.Places.{line-same}
+use Rattle.tables.proofs.Bytes.{line-same}
 use Rattle.renumber.specs.Renumber.{movedBytes}
 
 -- the last kind

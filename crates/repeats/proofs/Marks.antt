@@ -9,14 +9,10 @@ use lib.Dec.{eqb}
 use borrow.Author.Tests.{ne-eqb}
 use Rattle.sets.specs.Lists.{All, done, more, _&_, either, any, only, keep, _∪_}
 use Rattle.sets.specs.Bits.{mem, join, joins, grant}
-use Rattle.sets.proofs.Lists.{iff, and-l, and-r, and-i, eqb-eq, eq-eqb}
+use Rattle.sets.proofs.Lists.{iff, and-l, and-r, and-i, eqb-eq, eqb-i}
 use Rattle.sets.proofs.Bits.{has-or, has-none}
 use Rattle.sets.proofs.Joins.{join-zero, join-none}
 use Rattle.flow.proofs.Sites.{mem-single}
-
--- of equal numbers
-eqb-same : {x y : ℕ} → x ≡ y → eqb x y ≡ true
-eqb-same {x} {y} e = ap (λ (z : ℕ). eqb z y) e ∙ eq-eqb y
 
 -- some element that passes both tests
 only-any : {A : Type 0} (p : A → Bool) (b : Bool) (x : A) (ys : List A) → any p (only b x ∪ ys) ≡ either (b & p x) (any p ys)
@@ -63,4 +59,4 @@ joins-mem p q s (x ∷ xs) = has-or (grant (p x) (2 ^ q x)) (joins (λ x. grant 
 
 -- two numbers as one
 pub two-same : (f : ℕ → ℕ → ℕ) (a b c d : ℕ) → (f a b ≡ f c d → (a ≡ c) × (b ≡ d)) → (eqb a c & eqb b d) ≡ eqb (f a b) (f c d)
-two-same f a b c d inj = iff (λ t. eqb-same (ap₂ f (eqb-eq (and-l _ _ t)) (eqb-eq (and-r _ _ t)))) (λ t. let e = inj (eqb-eq t) in and-i (eqb-same (e .0)) (eqb-same (e .1)))
+two-same f a b c d inj = iff (λ t. eqb-i (ap₂ f (eqb-eq (and-l _ _ t)) (eqb-eq (and-r _ _ t)))) (λ t. let e = inj (eqb-eq t) in and-i (eqb-i (e .0)) (eqb-i (e .1)))

@@ -11,7 +11,7 @@ use lib.ListN.{getD}
 use borrow.Author.Tests.{ltb-true, ne-eqb}
 use Rattle.sets.specs.Lists.{All, _&_, any, all, only, same}
 use Rattle.sets.specs.Bits.{mem, grant, joins}
-use Rattle.sets.proofs.Lists.{iff, and-l, eqb-eq, eq-eqb, In-All, All-in, All-turn, keep-out}
+use Rattle.sets.proofs.Lists.{iff, and-l, eqb-eq, eq-eqb, In-All, All-in, All-turn, keep-out, and-true, and-yes}
 use Rattle.sets.proofs.Tables.{getD-table}
 use Rattle.klaim.specs.Rows.{Row, groupR, groupD, groupT, groupL, groupQ, groupB, groupA, groupE}
 use Rattle.klaim.specs.Net.{Root}
@@ -21,15 +21,11 @@ use Rattle.text.specs.Fields.{sitesTo}
 use Rattle.forms.specs.declared.RowData.{RowData}
 use Rattle.forms.specs.Forms.{rowData, rowGood, pairGroup, tupleGroup}
 use Rattle.forms.proofs.RowForms.{pair-case, tuple-case, pair-some, tuple-some}
-use Rattle.judge.proofs.Tests.{and-true}
-use Rattle.repeats.specs.Kept.{Kept, rootSame, keyOf}
+use Rattle.judge.proofs.Limits.{group-is}
+use Rattle.repeats.specs.Kept.{Kept, rootSame, tupleKey}
 use Rattle.repeats.proofs.Marks.{any-keep, any-map, joins-some, joins-mem, two-same}
 use Rattle.repeats.proofs.Keys.{key-same, sites-low}
-use Rattle.repeats.proofs.Rows.{PairRow, BoxRow, BoundRow, RootRow, group-is, pair-row, box-row, bound-row, root-row, tuple-row, kept-pair, kept-box, kept-bound, kept-root, kept-tuple}
-
-true-and : (b : Bool) → (true & b) ≡ b
-unfolding _&_
-true-and b = refl
+use Rattle.repeats.proofs.Rows.{PairRow, BoxRow, BoundRow, RootRow, pair-row, box-row, bound-row, root-row, tuple-row, kept-pair, kept-box, kept-bound, kept-root, kept-tuple}
 
 -- rows of two groups have two keys
 key-split : (b r : Row) (g : ℕ) → r .group ≡ g → (p : Bool) → (b .group ≡ g → same (key b) (key r) ≡ p) → same (key b) (key r) ≡ (eqb (b .group) g & p)
@@ -37,7 +33,7 @@ unfolding key same
 key-split b r g own p h = go (eqb (b .group) g) refl
   where
     go : (x : Bool) → eqb (b .group) g ≡ x → same (key b) (key r) ≡ (x & p)
-    go true e = h (eqb-eq e) ∙ sym (true-and p)
+    go true e = h (eqb-eq e) ∙ sym (and-yes p refl)
     go false e = iff (λ t. absurd (false≢true (sym e ∙ ap (eqb (b .group)) (sym own) ∙ and-l _ _ t))) (λ t. absurd (false≢true (and-l _ _ t)))
 
 -- keys of rows of one group
@@ -191,12 +187,12 @@ root-alike {s} {q} {t} {p} {b} {r} B R e =
     ∙ ap (λ (x : Root). eqb (x .site) t & eqb (x .line) p) (sym (B .root-is))
 
 module _ (row : RowData) (G : rowGood row ≡ true) (L : inLimits (rowData row) ≡ true) where
-  pub tuple-seen : (P : tupleGroup (row .group) ≡ true) (k : ℕ) → k ≡ keyOf (rowData row .sites) → (xs : List ℕ) {above : List Row} → All Kept above → xs ≡ map (λ x. keyOf (x .sites)) (ofGroup (row .group) above) → any (λ x. eqb x k) xs ≡ repeated above (rowData row)
+  pub tuple-seen : (P : tupleGroup (row .group) ≡ true) (k : ℕ) → k ≡ tupleKey (rowData row .sites) → (xs : List ℕ) {above : List Row} → All Kept above → xs ≡ map (λ x. tupleKey (x .sites)) (ofGroup (row .group) above) → any (λ x. eqb x k) xs ≡ repeated above (rowData row)
   tuple-seen P k s xs {above} K e =
       let g = group-is row G (ltb-true 0 (row .group) (tuple-some (row .group) P)) in
       let of : (b : Row) → Kept b → b .group ≡ row .group → tupleGroup (b .group) ≡ true = λ b k q. subst (λ (x : ℕ). tupleGroup x ≡ true) (sym q) P in
-      list-seen (rowData row) (row .group) g (tuple-no-q (row .group) P) (λ x. keyOf (x .sites)) (λ x. eqb x k)
-      (λ b kept q. keys-same b (rowData row) (b .sites) (rowData row .sites) (kept-tuple kept (of b kept q)) (tuple-row row G P) (q ∙ sym g) ∙ key-same (b .sites) (rowData row .sites) (sites-low b (kept .low)) (sites-low (rowData row) L) ∙ ap (eqb (keyOf (b .sites))) (sym s)) xs K e
+      list-seen (rowData row) (row .group) g (tuple-no-q (row .group) P) (λ x. tupleKey (x .sites)) (λ x. eqb x k)
+      (λ b kept q. keys-same b (rowData row) (b .sites) (rowData row .sites) (kept-tuple kept (of b kept q)) (tuple-row row G P) (q ∙ sym g) ∙ key-same (b .sites) (rowData row .sites) (sites-low b (kept .low)) (sites-low (rowData row) L) ∙ ap (eqb (tupleKey (b .sites))) (sym s)) xs K e
 
   pub root-seen : row .group ≡ groupL → (xs : List Root) {above : List Row} → All Kept above → xs ≡ map rootOf (ofGroup groupL above) → any (rootSame (row .line .target .number) (row .own)) xs ≡ repeated above (rowData row)
   root-seen P xs {above} K e =

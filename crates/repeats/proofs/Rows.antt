@@ -8,31 +8,23 @@ use Prim.Native.Nat.{ℕ, _+_, _*_, _<_}
 use native.Mathlib.Omega.{arith}
 use lib.Dec.{ltb}
 use lib.ListN.{getD}
-use borrow.Author.Tests.{lt-ltb, ltb-true}
+use borrow.Author.Tests.{ltb-true}
 use Rattle.sets.specs.Lists.{all, _∪_}
-use Rattle.sets.proofs.Lists.{and-l, and-r}
+use Rattle.sets.proofs.Lists.{and-l, and-r, low-first, low-rest}
 use Rattle.sets.proofs.Runs.{union-none}
 use Rattle.klaim.specs.Limits.{siteLimit, varLimit, boxLimit, lineLimit}
-use Rattle.klaim.specs.Rows.{Row, rowLine, groupD, groupL, groupB}
+use Rattle.klaim.specs.Rows.{Row, groupD, groupL, groupB}
 use Rattle.klaim.specs.Reader.{inLimits, key, nth, pairPlace, boxPlace, rootOf}
 use Rattle.text.specs.declared.Name.{Name}
 use Rattle.text.specs.Fields.{sitesTo}
 use Rattle.forms.specs.declared.RowData.{RowData}
-use Rattle.forms.specs.Forms.{rowData, rowView, rowGood, plainRow, pairGroup, tupleGroup}
-use Rattle.forms.proofs.RowForms.{rowAs, numbers, pair-some, tuple-some}
+use Rattle.forms.specs.Forms.{rowData, rowView, rowGood, pairGroup, tupleGroup}
+use Rattle.forms.proofs.RowForms.{rowAs, pair-some, tuple-some}
 use Rattle.forms.proofs.Views.{view-some, view-pair, view-d, view-tuple, view-l, view-b}
-use Rattle.judge.proofs.Limits.{Good, q-row, plain-row, good}
+use Rattle.judge.proofs.Limits.{good, group-is}
 use Rattle.repeats.specs.Kept.{Kept}
 
 -- a number within its limit
-low-first : (limit n : ℕ) (ns : List ℕ) → all (λ k. ltb k limit) (n ∷ ns) ≡ true → n < limit
-unfolding all
-low-first limit n ns h = ltb-true n limit (and-l _ _ h)
-
-low-rest : (limit n : ℕ) (ns : List ℕ) → all (λ k. ltb k limit) (n ∷ ns) ≡ true → all (λ k. ltb k limit) ns ≡ true
-unfolding all
-low-rest limit n ns h = and-r _ _ h
-
 module _ (x : Row) (h : inLimits x ≡ true) where
   boxes-low : all (λ k. ltb k boxLimit) (x .boxes) ≡ true
   unfolding inLimits
@@ -113,14 +105,6 @@ tuple-as g z w ss = ap (λ (l : List ℕ). g ∷ l) (union-none ss)
 -- what the code's form of a row stands for
 shown : {x : Row} (r : RowData) → 0 < r .group → rowView r ≡ some x → rowData r ≡ x
 shown r g v = let w = view-some r (λ z. omega arith) in cc
-
-pub group-is : (r : RowData) → rowGood r ≡ true → 0 < r .group → rowData r .group ≡ r .group
-unfolding rowData rowLine plainRow
-group-is r G h = go (good r G h)
-  where
-    go : Good r → rowData r .group ≡ r .group
-    go (q-row e k l P o) = rw (lt-ltb 0 (r .line .kind) k) (sym e)
-    go (plain-row e k P) = rw k
 
 module _ (r : RowData) (G : rowGood r ≡ true) (L : inLimits (rowData r) ≡ true) where
   pub pair-row : pairGroup (r .group) ≡ true → PairRow (r .line .target .number) (r .line .fields .a .number) (rowData r)

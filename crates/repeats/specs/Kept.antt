@@ -26,9 +26,9 @@ unfoldable pub rootSame : ℕ → ℕ → Root → Bool
 rootSame s q x = eqb (x .site) s & eqb (x .line) q
 
 -- the sites of a tuple as one number, 5 bits each, 1 behind them
-unfoldable pub keyOf : List ℕ → ℕ
-keyOf [] = 1
-keyOf (x ∷ xs) = x + 32 * keyOf xs
+unfoldable pub tupleKey : List ℕ → ℕ
+tupleKey [] = 1
+tupleKey (x ∷ xs) = x + 32 * tupleKey xs
 
 -- a site in front of the key of those behind it, if it is one of the first n
 unfoldable pub keyStep : ℕ → ℕ → ℕ → ℕ → ℕ
@@ -36,4 +36,4 @@ keyStep i n site rest = cond (ltb i n) (site + 32 * rest) 1
 
 -- the keys of the tuples of a group above
 pub record KeysAre (g : ℕ) (above : List Row) (keys : List ℕ) (n : ℕ) : Type 0 where
-  pub is : take n keys ≡ map (λ r. keyOf (r .sites)) (ofGroup g above)
+  pub is : take n keys ≡ map (λ r. tupleKey (r .sites)) (ofGroup g above)

@@ -11,7 +11,7 @@ ghost use Rattle.klaim.specs.Reader.{inLimits, ofGroup, repeated, nth, gather, 
 ghost use Rattle.text.specs.Fields.{sitesTo};
 ghost use Rattle.forms.specs.Forms.{rowData, rowGood, pairGroup, tupleGroup};
 ghost use Rattle.tables.specs.View.{rowAt, rootAt, rootsView};
-ghost use Rattle.repeats.specs.Kept.{Kept, rootSame, keyOf, keyStep, KeysAre};
+ghost use Rattle.repeats.specs.Kept.{Kept, rootSame, tupleKey, keyStep, KeysAre};
 use forms::RowData;
 use tables::ROOT;
 use text::Name;
@@ -93,7 +93,7 @@ fn key_step(i: u8, n: u8, site: u8, rest: u32) -> u32
 
 // The sites of a tuple's bytes as one number.
 fn key_of(b: [u8; 6]) -> u32
-    ensures { λ r. ⌜ r ≡ keyOf (rowAt b 0) ⌝ }
+    ensures { λ r. ⌜ r ≡ tupleKey (rowAt b 0) ⌝ }
 {
     let n = b[0];
     let fifth = key_step(4, n, b[5], 1);
@@ -108,7 +108,7 @@ fn key(row: RowData) -> u32
     requires { ⌜ rowGood row ≡ true ⌝ }
     requires { ⌜ inLimits (rowData row) ≡ true ⌝ }
     requires { ⌜ tupleGroup (row .group) ≡ true ⌝ }
-    ensures { λ r. ⌜ r ≡ keyOf (rowData row .sites) ⌝ }
+    ensures { λ r. ⌜ r ≡ tupleKey (rowData row .sites) ⌝ }
 {
     key_of(entries::tuple_bytes(row))
 }

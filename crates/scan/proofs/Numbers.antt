@@ -1,36 +1,26 @@
 -- The tests of a row in their order.
 -- Assumes nothing.
-use mathlib.Core.Path.{_≡_, refl, sym, ap, _∙_}
+use mathlib.Core.Path.{_≡_, refl, sym}
 use mathlib.Core.Bool.{Bool, true, false, not, cond, false≢true}
 use mathlib.Core.List.{List}
-use mathlib.Core.Option.{none, some}
 use Prim.Native.Nat.{ℕ, zero, suc, _+_, _<_}
 use native.Mathlib.Omega.{arith}
 use lib.Dec.{eqb}
 use lib.ListN.{length}
-use borrow.Author.Tests.{eq-eqb, ne-eqb, lt-ltb}
+use borrow.Author.Tests.{eq-eqb, ne-eqb}
 use Rattle.sets.specs.Lists.{_&_, either}
 use Rattle.klaim.specs.Process.{template, clash}
 use Rattle.sets.proofs.Lists.{not-no, not-yes}
-use Rattle.klaim.specs.Rows.{Row, rowLine, groupQ}
-use Rattle.klaim.specs.Reader.{Text, inLimits, ofGroup, full, over, headed, own, inOrder, repeated, misplaced, siteCount, absent, Judged, bad, good, judge}
+use Rattle.klaim.specs.Rows.{Row, groupQ}
+use Rattle.klaim.specs.Reader.{Text, inLimits, ofGroup, full, over, headed, own, inOrder, repeated, misplaced, siteCount, absent, bad, good, judge}
 use Rattle.forms.specs.declared.RowData.{RowData}
-use Rattle.forms.specs.Forms.{rowData, rowView, rowGood, plainRow, tupleGroup}
+use Rattle.forms.specs.Forms.{rowData, rowView, rowGood, tupleGroup}
 use Rattle.forms.proofs.Views.{view-none, view-some}
-use Rattle.judge.proofs.Limits.{Good, q-row, plain-row, good as good-row}
+use Rattle.judge.proofs.Limits.{Good, q-row, plain-row, good as good-row, group-is}
 use Rattle.binders.proofs.Binders.{clash-none}
 use Rattle.scan.specs.declared.Tally.{Tally}
 use Rattle.scan.specs.Tallies.{more, countedOf}
 use Rattle.scan.specs.Numbers.{earlyOf, lateOf, numberOf, judgedBy}
-
--- the group of a row
-pub group-is : (r : RowData) → rowGood r ≡ true → 0 < r .group → rowData r .group ≡ r .group
-unfolding rowData rowLine plainRow
-group-is r G h = go (good-row r G h)
-  where
-    go : Good r → rowData r .group ≡ r .group
-    go (q-row e k l P o) = rw (lt-ltb 0 (r .line .kind) k) (sym e)
-    go (plain-row e k P) = rw k
 
 either-true : (a : Bool) → either a true ≡ true
 unfolding either

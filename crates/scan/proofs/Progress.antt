@@ -1,7 +1,6 @@
 -- Laws of a loop over the rows of a text.
 -- Assumes nothing.
 use mathlib.Core.Path.{_≡_, refl, sym, ap, subst, _∙_}
-use mathlib.Core.Bool.{Bool, true, false, cond}
 use mathlib.Core.List.{List, [], _∷_, _++_}
 use mathlib.Core.Option.{Option}
 use Prim.Native.Nat.{ℕ, zero, suc, _+_, _-_, _<_, _≤_}
@@ -11,7 +10,7 @@ use Rattle.sets.specs.Lists.{keep, table, tableFrom}
 use Rattle.sets.specs.Bits.{joins}
 use borrow.Author.Tests.{ne-eqb}
 use Rattle.klaim.specs.Rows.{Row, newline, rowsOf, rowOf}
-use Rattle.klaim.specs.Reader.{Answer, refused, gives, Text, Judged, bad, good, judge, scan, readRows, gather, ofGroup}
+use Rattle.klaim.specs.Reader.{refused, gives, Text, Judged, bad, good, judge, scan, readRows, gather, ofGroup}
 use Rattle.text.specs.Pieces.{endOf}
 use Rattle.text.proofs.Pieces.{end-le}
 use Rattle.text.proofs.Rows.{rows-next, rows-left, rows-end}

@@ -1,15 +1,14 @@
 -- The tests on the rows above, read off a tally of them.
 -- Assumes nothing.
-use mathlib.Core.Path.{_≡_, refl, sym, ap, subst, _∙_}
-use mathlib.Core.Bool.{Bool, true, false, cond, false≢true}
+use mathlib.Core.Path.{_≡_, refl, sym, ap, _∙_}
+use mathlib.Core.Bool.{Bool, true, false, false≢true}
 use mathlib.Core.List.{List, [], _∷_, _++_, map}
-use Prim.Native.Nat.{ℕ, zero, suc, _+_, _<_}
+use Prim.Native.Nat.{ℕ, _+_}
 use native.Mathlib.Omega.{arith}
 use lib.Dec.{eqb}
-use lib.ListN.{length}
 use borrow.Author.Tests.{lt-ltb}
-use Rattle.sets.specs.Lists.{All, done, more, _&_, either, only, keep, empty, below, same, _∪_}
-use Rattle.sets.proofs.Lists.{eqb-eq, keep-snoc}
+use Rattle.sets.specs.Lists.{All, done, more, _&_, only, keep, below, same, _∪_}
+use Rattle.sets.proofs.Lists.{eqb-eq, and-true, and-false, and-assoc}
 use Rattle.sets.proofs.Runs.{below-snoc}
 use Rattle.klaim.specs.Rows.{Row, groupN, groupQ, rowLine}
 use Rattle.klaim.specs.Reader.{Text, ofGroup, own, nth, numbersOf}
@@ -24,30 +23,15 @@ unfolding _&_
 and-under true h = h refl
 and-under false h = refl
 
-and-shift : (a b c : Bool) → a & (b & c) ≡ (a & b) & c
-unfolding _&_
-and-shift true b c = refl
-and-shift false b c = refl
-
-and-false : (a : Bool) → a & false ≡ false
-unfolding _&_
-and-false true = refl
-and-false false = refl
-
-and-one : (a : Bool) → a & true ≡ a
-unfolding _&_
-and-one true = refl
-and-one false = refl
-
 -- two lists with a number more behind each
 pub same-snoc : (xs ys : List ℕ) (x y : ℕ) → same (xs ++ (x ∷ [])) (ys ++ (y ∷ [])) ≡ same xs ys & eqb x y
 unfolding same _&_
-same-snoc [] [] x y = and-one (eqb x y)
+same-snoc [] [] x y = and-true (eqb x y)
 same-snoc [] (b ∷ []) x y = and-false (eqb x b)
 same-snoc [] (b ∷ c ∷ ys) x y = and-false (eqb x b)
 same-snoc (a ∷ []) [] x y = and-false (eqb a y)
 same-snoc (a ∷ c ∷ xs) [] x y = and-false (eqb a y)
-same-snoc (a ∷ xs) (b ∷ ys) x y = ap (λ (t : Bool). eqb a b & t) (same-snoc xs ys x y) ∙ and-shift (eqb a b) (same xs ys) (eqb x y)
+same-snoc (a ∷ xs) (b ∷ ys) x y = ap (λ (t : Bool). eqb a b & t) (same-snoc xs ys x y) ∙ sym (and-assoc (eqb a b) (same xs ys) (eqb x y))
 
 -- Q rows in turn, with one row more
 module _ (above : List Row) (r : Row) (n : ℕ) where

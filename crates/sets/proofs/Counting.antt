@@ -3,11 +3,11 @@
 use mathlib.Core.Path.{_≡_, refl, sym, ap, subst, _∙_}
 use mathlib.Core.Logic.{_⊎_, inl, inr}
 use mathlib.Core.List.{List, [], _∷_, map}
-use Prim.Native.Nat.{ℕ, suc, _+_, _*_, _≤_}
+use Prim.Native.Nat.{suc, _≤_}
 use native.Mathlib.Omega.{arith}
-use lib.ListN.{length, length-map}
-use Rattle.sets.specs.Lists.{Elem, first, later, concat, keep, _∪_}
-use Rattle.sets.proofs.Lists.{in-none, in-left, in-right, union-case, map-out, keep-out, length-union, in-concat}
+use lib.ListN.{length}
+use Rattle.sets.specs.Lists.{Elem, first, later, concat, _∪_}
+use Rattle.sets.proofs.Lists.{in-none, union-case, map-out}
 
 -- no element stands twice
 pub data Unlike {A : Type 0} : List A → Type 0 where

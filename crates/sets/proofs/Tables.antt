@@ -1,18 +1,16 @@
 -- Laws of tables, and of a loop that fills an array with one.
 -- Assumes nothing.
 use mathlib.Core.Path.{_≡_, refl, sym, ap, subst, _∙_}
-use mathlib.Core.Bool.{Bool, true, false}
-use mathlib.Core.Logic.{_⊎_, inl, inr}
+use mathlib.Core.Bool.{Bool, true}
 use mathlib.Core.List.{List, [], _∷_, _++_}
 use Prim.Native.Nat.{ℕ, zero, suc, _+_, _-_, _<_, _≤_}
 use native.Mathlib.Omega.{arith}
 use native.Mathlib.Decide.{ℕ-discrete}
 use native.Mathlib.Nat.{add-zero}
-use lib.Dec.{eqb}
-use lib.ListN.{length, getD, drop, set, length-set, replicate}
+use lib.ListN.{length, getD, drop, set, length-set}
 use lib.Seq.{drop-cons, getD-set-same, getD-set-other, ext-getD}
-use Rattle.sets.specs.Lists.{Elem, first, later, _&_, all, table, tableFrom, below}
-use Rattle.sets.proofs.Lists.{in-none, and-l, and-r, and-i, all-at}
+use Rattle.sets.specs.Lists.{Elem, first, later, all, table, tableFrom, below}
+use Rattle.sets.proofs.Lists.{in-none, and-l, and-r}
 
 module _ {A : Type 0} where
   length-tableFrom : (n i : ℕ) (f : ℕ → A) → length (tableFrom n i f) ≡ n

@@ -1,6 +1,5 @@
 -- Sets as numbers: sets of sites and sets of rights.
 -- Assumes nothing.
-use mathlib.Core.Path.{_≡_}
 use mathlib.Core.Bool.{Bool, true, false}
 use mathlib.Core.List.{List, [], _∷_}
 use Prim.Native.Nat.{ℕ, _/_, _%_, _^_}

@@ -2,29 +2,25 @@
 -- Assumes nothing.
 use mathlib.Core.Path.{_≡_, refl, sym, ap, _∙_}
 use mathlib.Core.Bool.{Bool, true, false, cond}
-use mathlib.Core.List.{List, [], _∷_, _++_}
-use Prim.Native.Nat.{ℕ, _+_, _*_, _<_, _≤_}
+use mathlib.Core.List.{List, [], _∷_, _++_, append-nil}
+use Prim.Native.Nat.{ℕ, _+_, _<_, _≤_}
 use native.Mathlib.Omega.{arith}
-use native.Mathlib.Nat.{add-zero}
 use native.Mathlib.Numerals.{add-one}
 use borrow.Author.Tests.{eq-eqb, ne-eqb}
-use lib.Dec.{eqb}
-use lib.ListN.{getD}
-use Rattle.sets.specs.Lists.{concat, _∪_, table, tableFrom}
-use Rattle.sets.proofs.Lists.{cond-at, All-in}
+use Rattle.sets.specs.Lists.{concat, table, tableFrom}
+use Rattle.sets.proofs.Lists.{All-in, union-append}
 use Rattle.sets.proofs.Tables.{length-table, table-in, table-snoc}
-use Rattle.klaim.specs.declared.Loc.{Loc}
+use Rattle.sets.proofs.Runs.{concat-append, concat-one}
 use Rattle.klaim.specs.declared.Site.{Site}
 use Rattle.klaim.specs.Process.{Line, lineAt}
-use Rattle.klaim.specs.Process as Process
 use Rattle.klaim.specs.Net.{Net}
 use Rattle.klaim.specs.Reader.{Answer, refused, gives, andThen, World, readBoth}
 use Rattle.klaim.specs.State as Spec
 use Rattle.klaim.specs.State.{isNil, settle, homePolicy, rootThread, begin, start}
 use Rattle.klaim.proofs.Reader.{NetOk, RootOk, both-read}
 use Rattle.klaim.proofs.Invariant.{start-gives}
-use Rattle.tables.specs.View.{netView, lineByte, lineBy, lineOf, linesView, rootAt, rootsView}
-use Rattle.tables.proofs.Lines.{line-view, length-view}
+use Rattle.tables.specs.View.{netView, rootAt, rootsView}
+use Rattle.tables.proofs.Lines.{length-view}
 use Rattle.threads.specs.View.{bindingsView, threadsView}
 use Rattle.threads.proofs.Laws.{bindings-none}
 use Rattle.worlds.specs.declared.WorldRead.{WorldRead}
@@ -34,33 +30,6 @@ use Rattle.state.specs.View.{groundView, stateView}
 use Rattle.starts.specs.declared.Threads.{Threads}
 use Rattle.starts.specs.Started.{startView, Started, RootsIn, groundOf, begunOf}
 
--- a line of kind 0 is `nil`, and no other
-abbrev Other : Line → Type 0
-Other x = isNil x ≡ false
-
-cond-nil : (t : Bool) (x : Line) → Other x → isNil (cond t Process.Nil x) ≡ t
-unfolding isNil
-cond-nil true x h = refl
-cond-nil false x h = h
-
-by-nil : (j a b k : ℕ) (g : Loc) (fs : List ℕ) → isNil (lineBy j a b k g fs) ≡ eqb j 0
-unfolding lineBy isNil
-by-nil j a b k g fs =
-    cond-nil (eqb j 0) _
-    (cond-at Other (eqb j 1) (λ t. refl) (λ t.
-    cond-at Other (eqb j 2) (λ t. refl) (λ t.
-    cond-at Other (eqb j 3) (λ t. refl) (λ t.
-    cond-at Other (eqb j 4) (λ t. refl) (λ t.
-    cond-at Other (eqb j 5) (λ t. refl) (λ t.
-    cond-at Other (eqb j 6) (λ t. refl) (λ t. refl)))))))
-
-pub nil-test : (n : ℕ) (bs : List ℕ) (q : ℕ) → q < n → eqb (getD bs (10 * q) 0) 0 ≡ isNil (lineAt (linesView n bs) q)
-unfolding lineOf
-nil-test n bs q h =
-    sym (ap isNil (line-view n bs q h)
-    ∙ by-nil (lineByte bs q 0) _ _ _ _ _
-    ∙ ap (λ (i : ℕ). eqb (getD bs i 0) 0) (add-zero (10 * q)))
-
 -- the thread of a root
 pub root-view : (N : Net) (s q : ℕ) (ss : List Site) {p : List ℕ} → p ≡ homePolicy N s → record { site = s; policy = p; line = q; bindings = bindingsView 0 ss } ≡ rootThread N (record { site = s; line = q })
 unfolding rootThread
@@ -68,34 +37,17 @@ root-view N s q ss e = rw (e, bindings-none ss)
 
 -- a thread on `nil`, and one that is not
 module _ (ls : List Line) (th : Spec.Thread) (old : List Spec.Thread) {t : Bool} (e : t ≡ isNil (lineAt ls (th .line))) where
-  append-none : (xs : List Spec.Thread) → xs ≡ xs ++ []
-  append-none [] = refl
-  append-none (x ∷ xs) = ap (λ (l : List Spec.Thread). x ∷ l) (append-none xs)
-
   pub settle-none : t ≡ true → old ≡ old ++ settle ls th
   unfolding settle
-  settle-none h = append-none old ∙ ap (λ (b : Bool). old ++ cond b [] (th ∷ [])) (sym h ∙ e)
+  settle-none h = sym (append-nil old) ∙ ap (λ (b : Bool). old ++ cond b [] (th ∷ [])) (sym h ∙ e)
 
   pub settle-one : t ≡ false → {new : List Spec.Thread} → new ≡ old ++ (th ∷ []) → new ≡ old ++ settle ls th
   unfolding settle
   settle-one h q = q ∙ ap (λ (b : Bool). old ++ cond b [] (th ∷ [])) (sym h ∙ e)
 
 -- the union over a list with one element more
-module _ {A B : Type 0} (f : A → List B) where
-  union-none : (xs : List B) → xs ∪ [] ≡ xs
-  unfolding _∪_
-  union-none [] = refl
-  union-none (x ∷ xs) = ap (λ (l : List B). x ∷ l) (union-none xs)
-
-  union-more : (xs ys zs : List B) → xs ∪ (ys ++ zs) ≡ (xs ∪ ys) ++ zs
-  unfolding _∪_
-  union-more [] ys zs = refl
-  union-more (x ∷ xs) ys zs = ap (λ (l : List B). x ∷ l) (union-more xs ys zs)
-
-  concat-snoc : (xs : List A) (x : A) → concat f (xs ++ (x ∷ [])) ≡ concat f xs ++ f x
-  unfolding concat
-  concat-snoc [] x = union-none (f x)
-  concat-snoc (y ∷ xs) x = ap (λ (l : List B). f y ∪ l) (concat-snoc xs x) ∙ union-more (f y) (concat f xs) (f x)
+concat-snoc : {A B : Type 0} (f : A → List B) (xs : List A) (x : A) → concat f (xs ++ (x ∷ [])) ≡ concat f xs ++ f x
+concat-snoc f xs x = rw (concat-append, concat-one, union-append)
 
 -- the threads of the first roots
 module _ (N : Net) (bs : List ℕ) where

@@ -2,14 +2,14 @@
 -- Assumes nothing.
 use mathlib.Core.Path.{_≡_}
 use mathlib.Core.Bool.{true}
-use mathlib.Core.List.{List, [], _∷_}
+use mathlib.Core.List.{[], _∷_}
 use mathlib.Core.Option.{some}
-use Prim.Native.Nat.{ℕ, _≤_, _<_}
+use Prim.Native.Nat.{_≤_, _<_}
 use native.Mathlib.Omega.{arith}
 use lib.Dec.{leb, ltb}
 use borrow.Author.Tests.{ltb-true, leb-true}
 use Rattle.sets.specs.Lists.{_&_, imp, all, only}
-use Rattle.sets.proofs.Lists.{and-l, and-r}
+use Rattle.sets.proofs.Lists.{and-l, and-r, low-first, low-rest}
 use Rattle.klaim.specs.Limits.{siteLimit, boxLimit, varLimit, lineLimit}
 use Rattle.klaim.specs.Rows.{Row, rowLine, groupN, groupD, groupL, groupQ, groupB}
 use Rattle.klaim.specs.Reader.{inLimits}
@@ -36,14 +36,6 @@ within R h =
     record { boxes-low = and-l _ _ b; vars-low = and-l _ _ v; sites-low = and-l _ _ s; lines-low = and-r _ _ s }
 
 -- the first number of a list, and the second
-first-low : (n a : ℕ) (l : List ℕ) → all (λ k. ltb k n) (a ∷ l) ≡ true → a < n
-unfolding all
-first-low n a l h = ltb-true a n (and-l _ _ h)
-
-second-low : (n a b : ℕ) (l : List ℕ) → all (λ k. ltb k n) (a ∷ b ∷ l) ≡ true → b < n
-unfolding all
-second-low n a b l h = first-low n b l (and-r _ _ h)
-
 row-of : (r : RowData) (R : Row) → (r .group ≡ 0 → ⊥) → rowView r ≡ some R → rowData r ≡ R
 row-of r R g v = let w = view-some r g in cc
 
@@ -103,7 +95,7 @@ module _ (r : RowData) (G : rowGood r ≡ true) (L : inLimits (rowData r) ≡ tr
       let g = ltb-true 0 (r .group) (pair-some (r .group) p) in
       let s = row-of r _ (λ z. omega arith) (view-pair r G p .0) in
       let l = rw s at (within (rowData r) L .sites-low) in
-      record { row-is = s; from-low = first-low 32 _ _ l; to-low = second-low 32 _ _ _ l }
+      record { row-is = s; from-low = low-first 32 _ _ l; to-low = low-first 32 _ _ (low-rest 32 _ _ l) }
 
   pub box-row : r .group ≡ groupD → BoxRow r
   unfolding sitesTo only
@@ -111,7 +103,7 @@ module _ (r : RowData) (G : rowGood r ≡ true) (L : inLimits (rowData r) ≡ tr
       let s = row-of r _ (λ z. omega arith) (view-d r G e .0) in
       let b = rw s at (within (rowData r) L .boxes-low) in
       let l = rw s at (within (rowData r) L .sites-low) in
-      record { row-is = s; box-low = first-low 32 _ _ b; to-low = λ k. first-low 32 _ _ (rw k at l) }
+      record { row-is = s; box-low = low-first 32 _ _ b; to-low = λ k. low-first 32 _ _ (rw k at l) }
 
   pub tuple-row : tupleGroup (r .group) ≡ true → TupleRow r
   unfolding all
@@ -127,14 +119,14 @@ module _ (r : RowData) (G : rowGood r ≡ true) (L : inLimits (rowData r) ≡ tr
       let s = row-of r _ (λ z. omega arith) (view-l r G e) in
       let l = rw s at (within (rowData r) L .sites-low) in
       let q = rw s at (within (rowData r) L .lines-low) in
-      record { row-is = s; site-low = first-low 32 _ _ l; line-low = first-low 256 _ _ q }
+      record { row-is = s; site-low = low-first 32 _ _ l; line-low = low-first 256 _ _ q }
 
   pub bound-row : r .group ≡ groupB → BoundRow r
   bound-row e =
       let s = row-of r _ (λ z. omega arith) (view-b r G e) in
       let u = rw s at (within (rowData r) L .vars-low) in
       let l = rw s at (within (rowData r) L .sites-low) in
-      record { row-is = s; variable-low = first-low 32 _ _ u; site-low = first-low 32 _ _ l }
+      record { row-is = s; variable-low = low-first 32 _ _ u; site-low = low-first 32 _ _ l }
 
   pub line-row : r .group ≡ groupQ → LineRow r
   unfolding rowLine
@@ -142,4 +134,4 @@ module _ (r : RowData) (G : rowGood r ≡ true) (L : inLimits (rowData r) ≡ tr
       let v = view-q r G e in
       let s = row-of r _ (λ z. omega arith) (v .0) in
       let q = rw s at (within (rowData r) L .lines-low) in
-      record { row-is = s; line-good = v .1; own-low = first-low 256 _ _ q }
+      record { row-is = s; line-good = v .1; own-low = low-first 256 _ _ q }

@@ -13,21 +13,17 @@ use lib.ListN.{length, getD, take, drop, drop-of-length-le}
 use lib.Seq.{drop-cons, take-all}
 use borrow.Author.Tests.{eq-eqb, ne-eqb, le-leb, lt-leb, lt-ltb, leb-true}
 use Rattle.sets.specs.Lists.{_&_, either, all, same}
+use Rattle.sets.proofs.Lists.{and-false}
 use Rattle.klaim.specs.Rows.{given, digit, decimal, number, lettered, bindField, varField, _>>=_}
 use Rattle.text.specs.Fields.{numberOf, shapeOf, digitsField, binderOf}
 
 -- tests of two lists for equality
-and-false : (a b : Bool) → b ≡ false → a & b ≡ false
-unfolding _&_
-and-false true b h = h
-and-false false b h = refl
-
 pub same-long : (a b : List ℕ) → (length a ≡ length b → ⊥) → same a b ≡ false
 unfolding same
 same-long [] [] h = absurd (h refl)
 same-long [] (y ∷ b) h = refl
 same-long (x ∷ a) [] h = refl
-same-long (x ∷ a) (y ∷ b) h = and-false (eqb x y) (same a b) (same-long a b (λ q. h (ap suc q)))
+same-long (x ∷ a) (y ∷ b) h = rw (same-long a b (λ q. h (ap suc q))) (and-false (eqb x y))
 
 module _ (a b : List ℕ) (i : ℕ) where
   pub same-next : i < length a → i < length b → getD a i 0 ≡ getD b i 0 → same (drop i a) (drop i b) ≡ same (drop (i + 1) a) (drop (i + 1) b)

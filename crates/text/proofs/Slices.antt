@@ -8,14 +8,14 @@ use Prim.Native.Nat.{ℕ, zero, suc, _+_, _≤_, _<_, _-_}
 use native.Mathlib.Nat.{zero-add, suc-add}
 use native.Mathlib.Omega.{arith}
 use native.Mathlib.Decide.{decLt, ℕ-discrete}
-use lib.Dec.{eqb, ltb}
+use lib.Dec.{eqb}
 use lib.ListN.{length, getD, take, drop, set, length-drop}
 use lib.Seq.{length-take-le, take-nil, drop-drop}
-use borrow.Author.Tests.{lt-ltb, le-ltb, eq-eqb, ne-eqb, ltb-true, eqb-true}
+use borrow.Author.Tests.{lt-ltb, eq-eqb, ltb-true, eqb-true}
 use Rattle.sets.specs.Lists.{_&_}
 use Rattle.sets.proofs.Lists.{and-l, and-r}
 use Rattle.klaim.specs.Rows.{split, piecesAfter, at, comma, newline}
-use Rattle.text.specs.Pieces.{pieceAt, endOf, edgeLimit, Cut, Mark, commaAt}
+use Rattle.text.specs.Pieces.{endOf, edgeLimit, Cut, Mark, commaAt}
 use Rattle.text.proofs.Pieces.{some-piece, grown, piece-hit, piece-miss, piece-end, end-le, Cutting, cutting-none, cutting-more, cutting-done}
 
 -- the first piece of the front of a list

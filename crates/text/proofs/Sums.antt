@@ -1,7 +1,7 @@
 -- Laws of the rights of a field.
 -- Assumes nothing.
 use mathlib.Core.Path.{_≡_, refl, sym, ap, subst, _∙_}
-use mathlib.Core.Bool.{Bool, true, false, not, cond}
+use mathlib.Core.Bool.{Bool, true, false, not, cond, false≢true}
 use mathlib.Core.List.{List, [], _∷_}
 use mathlib.Core.Option.{Option, none, some}
 use Prim.Native.Nat.{ℕ, suc, _+_, _*_, _≤_, _<_}
@@ -10,7 +10,7 @@ use native.Mathlib.Omega.{arith}
 use lib.Dec.{eqb, leb, ltb}
 use lib.ListN.{length, getD, drop, drop-of-length-le}
 use lib.Seq.{drop-cons}
-use borrow.Author.Tests.{lt-ltb, le-ltb, leb-true, ltb-true, ltb-false, eqb-true}
+use borrow.Author.Tests.{lt-ltb, leb-true, ltb-true, ltb-false, eqb-true}
 use Rattle.sets.specs.Lists.{_&_, either, imp, all, any, among, empty}
 use Rattle.sets.proofs.Lists.{all-at, among-in, imp-e}
 use Rattle.klaim.specs.Rows.{given, otherwise, _>>=_, rightOf, rightsAfter, rightsField}
@@ -117,60 +117,42 @@ byLetter o i r e a =
 abbrev after : ℕ → List ℕ → Option ℕ → Option ℕ
 after last g o = o >>= λ x. rightsAfter x g >>= λ rs. given (ltb last x) (some (x + rs))
 
-pub apart-o : Apart 0 1 111
-unfolding rightsAfter rightOf given otherwise _>>=_
-apart-o b g n = rw n (go (eqb b 105) (eqb b 114) (eqb b 101) (eqb b 97))
-  where
-    go : (i r e a : Bool) → after 0 g (byLetter false i r e a) ≡ after 1 g (byLetter false i r e a)
-    go true r e a = refl
-    go false true e a = refl
-    go false false true a = refl
-    go false false false true = refl
-    go false false false false = refl
+-- where no letter that stands tells them apart
+alike : (last r : ℕ) (g : List ℕ) (o i q e a : Bool) → (o ≡ true → ltb last 1 ≡ ltb r 1) → (i ≡ true → ltb last 2 ≡ ltb r 2) → (q ≡ true → ltb last 4 ≡ ltb r 4) → (e ≡ true → ltb last 8 ≡ ltb r 8) → (a ≡ true → ltb last 16 ≡ ltb r 16) → after last g (byLetter o i q e a) ≡ after r g (byLetter o i q e a)
+unfolding given otherwise _>>=_
+alike last r g true i q e a h1 h2 h4 h8 h16 = rw (h1 refl)
+alike last r g false true q e a h1 h2 h4 h8 h16 = rw (h2 refl)
+alike last r g false false true e a h1 h2 h4 h8 h16 = rw (h4 refl)
+alike last r g false false false true a h1 h2 h4 h8 h16 = rw (h8 refl)
+alike last r g false false false false true h1 h2 h4 h8 h16 = rw (h16 refl)
+alike last r g false false false false false h1 h2 h4 h8 h16 = refl
 
-pub apart-i : Apart 1 2 105
-unfolding rightsAfter rightOf given otherwise _>>=_
-apart-i b g n = rw n (go (eqb b 111) (eqb b 114) (eqb b 101) (eqb b 97))
-  where
-    go : (o r e a : Bool) → after 1 g (byLetter o false r e a) ≡ after 2 g (byLetter o false r e a)
-    go true r e a = refl
-    go false true e a = refl
-    go false false true a = refl
-    go false false false true = refl
-    go false false false false = refl
+-- the letter of r does not stand
+never : {b : Bool} {x y : Bool} → b ≡ false → b ≡ true → x ≡ y
+never n t = absurd (false≢true (sym n ∙ t))
 
-pub apart-r : Apart 2 4 114
-unfolding rightsAfter rightOf given otherwise _>>=_
-apart-r b g n = rw n (go (eqb b 111) (eqb b 105) (eqb b 101) (eqb b 97))
-  where
-    go : (o i e a : Bool) → after 2 g (byLetter o i false e a) ≡ after 4 g (byLetter o i false e a)
-    go true i e a = refl
-    go false true e a = refl
-    go false false true a = refl
-    go false false false true = refl
-    go false false false false = refl
+same : {b x : Bool} → b ≡ true → x ≡ x
+same t = refl
 
-pub apart-e : Apart 4 8 101
-unfolding rightsAfter rightOf given otherwise _>>=_
-apart-e b g n = rw n (go (eqb b 111) (eqb b 105) (eqb b 114) (eqb b 97))
-  where
-    go : (o i r a : Bool) → after 4 g (byLetter o i r false a) ≡ after 8 g (byLetter o i r false a)
-    go true i r a = refl
-    go false true r a = refl
-    go false false true a = refl
-    go false false false true = refl
-    go false false false false = refl
+apart-o : Apart 0 1 111
+unfolding rightsAfter rightOf
+apart-o b g n = alike 0 1 g _ _ _ _ _ (never n) same same same same
 
-pub apart-a : Apart 8 16 97
-unfolding rightsAfter rightOf given otherwise _>>=_
-apart-a b g n = rw n (go (eqb b 111) (eqb b 105) (eqb b 114) (eqb b 101))
-  where
-    go : (o i r e : Bool) → after 8 g (byLetter o i r e false) ≡ after 16 g (byLetter o i r e false)
-    go true i r e = refl
-    go false true r e = refl
-    go false false true e = refl
-    go false false false true = refl
-    go false false false false = refl
+apart-i : Apart 1 2 105
+unfolding rightsAfter rightOf
+apart-i b g n = alike 1 2 g _ _ _ _ _ same (never n) same same same
+
+apart-r : Apart 2 4 114
+unfolding rightsAfter rightOf
+apart-r b g n = alike 2 4 g _ _ _ _ _ same same (never n) same same
+
+apart-e : Apart 4 8 101
+unfolding rightsAfter rightOf
+apart-e b g n = alike 4 8 g _ _ _ _ _ same same same (never n) same
+
+apart-a : Apart 8 16 97
+unfolding rightsAfter rightOf
+apart-a b g n = alike 8 16 g _ _ _ _ _ same same same same (never n)
 
 -- behind the last right no letter stands
 behind-all : (b : ℕ) (g : List ℕ) → rightsAfter 16 (b ∷ g) ≡ none

@@ -15,25 +15,18 @@ const COMMA: u8 = 44;
 // No row form has more than 9 fields: where each begins, and one past the end of the last.
 pub const EDGES: usize = 10;
 
-// Where the piece that begins at `from` ends: at the next separator, or at the end of the bytes.
-fn piece_end(s: &[u8], from: usize, separator: u8) -> usize
-    ensures { λ r. ⌜ r ≡ endOf separator (now (s .entry)) from ⌝ }
+// Where the row that begins at `from` ends: at the next newline, or at the end of the bytes.
+pub fn row_end(s: &[u8], from: usize) -> usize
+    ensures { λ r. ⌜ r ≡ endOf newline (now (s .entry)) from ⌝ }
 {
     let mut i = from;
     while i < s.len() {
-        if s[i] == separator {
+        if s[i] == NEWLINE {
             return i;
         }
         i += 1;
     }
     i
-}
-
-// Where the row that begins at `from` ends.
-pub fn row_end(s: &[u8], from: usize) -> usize
-    ensures { λ r. ⌜ r ≡ endOf newline (now (s .entry)) from ⌝ }
-{
-    piece_end(s, from, NEWLINE)
 }
 
 // Keeps edge k, where it is one that a field of a row form needs.
@@ -44,22 +37,6 @@ fn keep(edges: &mut [usize; EDGES], k: usize, edge: usize)
     if k < EDGES {
         edges[k] = edge;
     }
-}
-
-// The number of fields of a row, and the edges of the first 9.
-pub fn cuts(row: &[u8], edges: &mut [usize; EDGES]) -> usize
-    requires { ⌜ length (now edges) ≡ edgeLimit ⌝ }
-    ensures { λ r. ⌜ Cut (now (row .entry)) (now (edges .exit)) r ⌝ }
-{
-    let mut n = 0;
-    let mut from = 0;
-    keep(edges, 0, 0);
-    while from <= row.len() {
-        from = piece_end(row, from, COMMA) + 1;
-        n += 1;
-        keep(edges, n, from);
-    }
-    n
 }
 
 // Where the field that begins at `from` ends: at the next comma or newline, or at the end of the bytes.
@@ -194,6 +171,49 @@ pub fn number(f: &[u8]) -> u16
         return digits(f);
     }
     NO_NUMBER
+}
+
+// A decimal number of any length; `is` says whether a field is one. What does not fit is as good as the largest.
+pub struct Spelled {
+    pub is: bool,
+    pub value: usize,
+}
+
+// A number with a digit more.
+fn longer(n: usize, digit: usize) -> usize
+    requires { ⌜ digit < 10 ⌝ }
+{
+    if (usize::MAX - digit) / 10 < n {
+        return usize::MAX;
+    }
+    10 * n + digit
+}
+
+// At least one digit, and nothing else.
+pub fn decimal(f: &[u8]) -> Spelled {
+    let mut n: usize = 0;
+    let mut i = 0;
+    while i < f.len() {
+        let b = f[i];
+        if b < b'0' {
+            return Spelled {
+                is: false,
+                value: 0,
+            };
+        }
+        if b'9' < b {
+            return Spelled {
+                is: false,
+                value: 0,
+            };
+        }
+        n = longer(n, (b - b'0') as usize);
+        i += 1;
+    }
+    Spelled {
+        is: 0 < f.len(),
+        value: n,
+    }
 }
 
 // A letter and a number.

@@ -2,7 +2,7 @@
 -- Assumes nothing.
 use mathlib.Core.Path.{_≡_, refl, sym, ap, _∙_}
 use mathlib.Core.List.{List, [], _∷_, map}
-use mathlib.Core.Option.{Option, none, some}
+use mathlib.Core.Option.{none, some}
 use Prim.Native.Nat.{ℕ, zero, suc, _-_, _<_, _≤_}
 use native.Mathlib.Omega.{arith}
 use lib.ListN.{length, getD, getElem?, set, take}

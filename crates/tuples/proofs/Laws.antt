@@ -2,9 +2,9 @@
 -- Assumes nothing.
 use mathlib.Core.Path.{_≡_, refl, sym, ap, ap₂, _∙_}
 use mathlib.Core.Bool.{Bool, true, false, false≢true}
-use mathlib.Core.List.{List, [], _∷_, map}
+use mathlib.Core.List.{List, [], _∷_, map, map-map}
 use mathlib.Core.Option.{some}
-use Prim.Native.Nat.{ℕ, zero, suc, _+_, _*_, _-_, _<_, _≤_}
+use Prim.Native.Nat.{ℕ, zero, suc, _+_, _*_, _<_, _≤_}
 use native.Mathlib.Omega.{arith}
 use native.Mathlib.Decide.{ℕ-discrete}
 use borrow.Author.Tests.{eq-eqb, ne-eqb}
@@ -12,7 +12,7 @@ use lib.Dec.{eqb}
 use lib.ListN.{length, getD, set, take, drop, length-map, length-set, drop-of-length-le, replicate}
 use lib.Seq.{drop-cons, ext-getD, getD-set-same, getD-set-other}
 use Rattle.sets.specs.Lists.{_&_}
-use Rattle.sets.proofs.Lists.{and-r}
+use Rattle.sets.proofs.Lists.{and-r, and-yes, and-no}
 use Rattle.klaim.specs.declared.Var.{Var}
 use Rattle.klaim.specs.declared.Loc.{Loc}
 use Rattle.klaim.specs.declared.Slot.{Slot}
@@ -22,10 +22,10 @@ use Rattle.klaim.specs.State.{Bindings, Thread}
 use Rattle.klaim.specs.Engine.{value, bindAll, agrees}
 use Rattle.tables.specs.View.{LowLoc, LowSlot, slotOf, locOf, fieldBytes, rowAt}
 use Rattle.tables.proofs.Lines.{length-first, field-is}
+use Rattle.tables.proofs.Bytes.{row-long, row-get}
 use Rattle.matching.proofs.Laws.{row-get}
 use Rattle.threads.specs.View.{rebound}
 use Rattle.tuples.specs.Slots.{bindSlot}
-use Rattle.tuples.proofs.Rows.{row-long, row-at}
 
 -- the two sorts of a slot
 module _ {s : Slot} where
@@ -61,14 +61,6 @@ pub bind-target : (g : Loc) (ss : List Slot) (vs : List ℕ) (e : Bindings) → 
 unfolding bindAll
 bind-target g ss [] e h = absurd (omega arith)
 bind-target g ss (v ∷ vs) e h = refl
-
-pub and-yes : {a : Bool} (b : Bool) → a ≡ true → (a & b) ≡ b
-unfolding _&_
-and-yes b t = rw t
-
-pub and-no : {a : Bool} (b : Bool) → a ≡ false → (a & b) ≡ false
-unfolding _&_
-and-no b t = rw t
 
 -- the test of a field that binds nothing
 abbrev pub Same : Thread → Loc → ℕ → Bool
@@ -208,10 +200,6 @@ made-more {f} {n} {v} {l} {j} {w} M h e = record {
     here i t (yes q) = rw q (getD-set-same l (j + 2) w 0 (omega (arith, M .long)) ∙ e)
     here i t (no q) = getD-set-other l (j + 2) (i + 2) w 0 (omega arith) ∙ M .fields i (omega arith)
 
-map-map : {A B : Type 0} (f : A → B) (g : ℕ → A) (xs : List ℕ) → map f (map g xs) ≡ map (λ x. f (g x)) xs
-map-map f g [] = refl
-map-map {B = B} f g (x ∷ xs) = ap (λ (l : List B). f (g x) ∷ l) (map-map f g xs)
-
 pub made-all : (f : Loc → ℕ) (g : Loc) (bs : List ℕ) (q k : ℕ) {l : List ℕ} → 10 * q + 10 ≤ length bs → k ≤ 4 → Made (λ i. f (locOf (getD (fieldBytes bs q) i 0))) (k + 1) (f g) l k → rowAt l 0 ≡ map f (g ∷ map locOf (take k (fieldBytes bs q)))
 made-all f g bs q k {l} h few M =
     ext-getD 0 (rowAt l 0) (f g ∷ map f (map locOf (take k (fieldBytes bs q)))) (long ∙ sym rest) (λ i t. at i (omega (arith, long)))
@@ -220,13 +208,13 @@ made-all f g bs q k {l} h few M =
     room = omega (arith, M .long)
 
     long : length (rowAt l 0) ≡ k + 1
-    long = row-long l 0 room (k + 1) (M .head) (omega arith)
+    long = omega (arith, row-long l 0 room, M .head)
 
     rest : suc (length (map f (map locOf (take k (fieldBytes bs q))))) ≡ k + 1
     rest = omega (arith, length-map (map locOf (take k (fieldBytes bs q))) f, length-map (take k (fieldBytes bs q)) locOf, length-first bs q k h few)
 
     byte : (i : ℕ) → i < k + 1 → getD (rowAt l 0) i 0 ≡ getD l (suc i) 0
-    byte i t = row-at l 0 room i (omega (arith, M .head)) (omega arith) ∙ ap (λ (n : ℕ). getD l n 0) (omega arith)
+    byte i t = row-get l 0 room i (omega (arith, long)) ∙ ap (λ (n : ℕ). getD l n 0) (omega arith)
 
     at : (i : ℕ) → i < k + 1 → getD (rowAt l 0) i 0 ≡ getD (f g ∷ map f (map locOf (take k (fieldBytes bs q)))) i 0
     at zero t = byte 0 t ∙ M .site

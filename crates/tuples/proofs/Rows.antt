@@ -1,52 +1,18 @@
 -- Laws of tuples in a table of bytes: put behind the others, or taken out.
 -- Assumes nothing.
-use mathlib.Core.Path.{_≡_, refl, sym, ap, ap₂, _∙_}
-use mathlib.Core.List.{List, [], _∷_, _++_}
+use mathlib.Core.Path.{_≡_, refl, sym, ap, _∙_}
+use mathlib.Core.List.{List, []}
 use mathlib.Core.Option.{none, some}
 use Prim.Native.Nat.{ℕ, suc, _+_, _*_, _-_, _<_, _≤_}
 use native.Mathlib.Omega.{arith}
 use native.Mathlib.Decide.{ℕ-discrete, decLt}
-use native.Mathlib.Numerals.{add-one}
-use lib.ListN.{length, getD, getElem?, set, take, drop, length-take, length-drop, length-set}
-use lib.Seq.{getD-take, getD-drop, getD-set-same, getD-set-other, ext-getD}
+use lib.ListN.{length, getD, getElem?, set, length-set}
+use lib.Seq.{getD-set-same, getD-set-other, ext-getD}
 use Rattle.sets.specs.Lists.{splice, table}
-use Rattle.sets.proofs.Tables.{getD-table, length-table, same-table, table-snoc}
+use Rattle.sets.proofs.Tables.{getD-table, length-table}
 use Rattle.tables.specs.View.{rowAt, rowsView}
+use Rattle.tables.proofs.Bytes.{row-same}
 use Rattle.threads.proofs.Splice.{get-some, get-none, splice-long, splice-low, splice-high}
-
--- the tuple in six bytes of a table
-module _ (bs : List ℕ) (i : ℕ) (h : 6 * i + 6 ≤ length bs) where
-  five-long : length (take 5 (drop (6 * i + 1) bs)) ≡ 5
-  five-long = omega (arith, length-take 5 (drop (6 * i + 1) bs), length-drop (6 * i + 1) bs)
-
-  five-at : (j : ℕ) → j < 5 → getD (take 5 (drop (6 * i + 1) bs)) j 0 ≡ getD bs (6 * i + suc j) 0
-  five-at j l =
-      let e : 6 * i + 1 + j ≡ 6 * i + suc j = omega arith in
-      getD-take 5 (drop (6 * i + 1) bs) j 0 l ∙ getD-drop (6 * i + 1) bs j 0 ∙ ap (λ (k : ℕ). getD bs k 0) e
-
-  pub row-long : (n : ℕ) → getD bs (6 * i) 0 ≡ n → n ≤ 5 → length (rowAt bs i) ≡ n
-  unfolding rowAt
-  row-long n e l = omega (arith, length-take (getD bs (6 * i) 0) (take 5 (drop (6 * i + 1) bs)), five-long)
-
-  pub row-at : (j : ℕ) → j < getD bs (6 * i) 0 → j < 5 → getD (rowAt bs i) j 0 ≡ getD bs (6 * i + suc j) 0
-  unfolding rowAt
-  row-at j k l = getD-take (getD bs (6 * i) 0) (take 5 (drop (6 * i + 1) bs)) j 0 k ∙ five-at j l
-
--- equal bytes, equal tuples
-pub row-same : (bs cs : List ℕ) (i k : ℕ) → 6 * i + 6 ≤ length bs → 6 * k + 6 ≤ length cs → ((j : ℕ) → j < 6 → getD bs (6 * i + j) 0 ≡ getD cs (6 * k + j) 0) → rowAt bs i ≡ rowAt cs k
-unfolding rowAt
-row-same bs cs i k h l e = ap₂ (λ (n : ℕ) (xs : List ℕ). take n xs) count five
-  where
-    count : getD bs (6 * i) 0 ≡ getD cs (6 * k) 0
-    count =
-        let p : 6 * i ≡ 6 * i + 0 = omega arith in
-        let q : 6 * k + 0 ≡ 6 * k = omega arith in
-        ap (λ (n : ℕ). getD bs n 0) p ∙ e 0 (omega arith) ∙ ap (λ (n : ℕ). getD cs n 0) q
-
-    five : take 5 (drop (6 * i + 1) bs) ≡ take 5 (drop (6 * k + 1) cs)
-    five =
-        ext-getD 0 (take 5 (drop (6 * i + 1) bs)) (take 5 (drop (6 * k + 1) cs)) (five-long bs i h ∙ sym (five-long cs k l))
-        (λ j t. let u : j < 5 = omega (arith, five-long bs i h) in five-at bs i h j u ∙ e (suc j) (omega arith) ∙ sym (five-at cs k l j u))
 
 -- how many tuples, and the one at place k
 pub rows-long : (n : ℕ) (bs : List ℕ) → length (rowsView n bs) ≡ n

@@ -1,17 +1,16 @@
 -- Laws of how often lines are named.
 -- Assumes nothing.
-use mathlib.Core.Path.{_≡_, refl, sym, ap, ap₂, subst, _∙_}
-use mathlib.Core.Bool.{Bool}
+use mathlib.Core.Path.{_≡_, refl, sym, ap, subst, _∙_}
 use mathlib.Core.List.{List, [], _∷_, map}
 use Prim.Native.Nat.{ℕ, zero, suc, _+_, _*_, _<_, _≤_, min}
 use native.Mathlib.Omega.{arith}
 use native.Mathlib.Decide.{ℕ-discrete}
 use lib.Dec.{eqb}
-use lib.ListN.{length, getD, set, length-set, replicate, getD-replicate}
+use lib.ListN.{getD, set, length-set, replicate, getD-replicate}
 use lib.Seq.{getD-set-same, getD-set-other}
 use borrow.Author.Tests.{ne-eqb}
-use Rattle.sets.specs.Lists.{Elem, first, later, _&_, all, only, keep, concat, table, tableFrom, below, count, _∪_}
-use Rattle.sets.proofs.Lists.{eq-eqb, union-append, length-keep, map-append}
+use Rattle.sets.specs.Lists.{all, keep, concat, table, tableFrom, below, count, _∪_}
+use Rattle.sets.proofs.Lists.{eq-eqb, union-append, map-append, count-union, count-one, all-same}
 use Rattle.sets.proofs.Tables.{in-below, table-snoc}
 use Rattle.sets.proofs.Runs.{union-none, union-assoc, concat-append, concat-one}
 use Rattle.klaim.specs.Process.{children}
@@ -25,17 +24,11 @@ use Rattle.whole.specs.Children.{listOf}
 use Rattle.whole.specs.Counted.{Counted}
 
 -- one more number in a list
-count-more : (k : ℕ) (xs : List ℕ) (q : ℕ) → count k (xs ∪ (q ∷ [])) ≡ count k xs + count k (q ∷ [])
-unfolding count
-count-more k xs q = ap (λ (l : List ℕ). length (keep (eqb k) l)) (union-append xs (q ∷ [])) ∙ length-keep (eqb k) xs (q ∷ [])
-
 count-same : (q : ℕ) → count q (q ∷ []) ≡ 1
-unfolding count keep only _∪_
-count-same q = rw (eq-eqb q)
+count-same q = count-one q q ∙ rw (eq-eqb q)
 
 count-other : (k q : ℕ) → (k ≡ q → ⊥) → count k (q ∷ []) ≡ 0
-unfolding count keep only _∪_
-count-other k q p = rw (ne-eqb k q p)
+count-other k q p = count-one k q ∙ rw (ne-eqb k q p)
 
 pub named-more : {xs cs : List ℕ} (q : ℕ) {v : ℕ} → q < 256 → v ≡ min (getD cs q 0 + 1) 2 → Counted xs cs → Counted (xs ∪ (q ∷ [])) (set cs q v)
 named-more {xs} {cs} q {v} h e C = record {
@@ -44,10 +37,10 @@ named-more {xs} {cs} q {v} h e C = record {
 }
   where
     here : count q (xs ∪ (q ∷ [])) ≡ count q xs + 1
-    here = omega (arith, count-more q xs q, count-same q)
+    here = omega (arith, count-union q xs (q ∷ []), count-same q)
 
     other : (k : ℕ) → (k ≡ q → ⊥) → count k (xs ∪ (q ∷ [])) ≡ count k xs
-    other k p = omega (arith, count-more k xs q, count-other k q p)
+    other k p = omega (arith, count-union k xs (q ∷ []), count-other k q p)
 
     at : (k : ℕ) → k < 256 → Dec (k ≡ q) → getD (set cs q v) k 0 ≡ min (count k (xs ∪ (q ∷ []))) 2
     at k l (yes p) = rw p (getD-set-same cs q v 0 (omega (arith, C .long)) ∙ e ∙ omega (arith, C .times q h, here))
@@ -114,11 +107,6 @@ roots-more {r} rs i k e C = subst (λ (l : List ℕ). Counted l r) same C
         ∙ ap (map (λ (x : Root). x .line)) (sym (table-snoc i (rootAt rs)) ∙ ap (λ (n : ℕ). table n (rootAt rs)) e)
 
 -- each line is named once, by the counts
-all-same : (f g : ℕ → Bool) (xs : List ℕ) → ((x : ℕ) → Elem x xs → f x ≡ g x) → all f xs ≡ all g xs
-unfolding all
-all-same f g [] h = refl
-all-same f g (x ∷ xs) h = ap₂ _&_ (h x (first refl)) (all-same f g xs (λ y i. h y (later i)))
-
 capped : (c : ℕ) → eqb (min c 2) 1 ≡ eqb c 1
 capped zero = refl
 capped (suc zero) = refl

@@ -2,19 +2,17 @@
 -- Assumes nothing.
 use mathlib.Core.Path.{_≡_, refl, sym, ap, ap₂, subst, _∙_}
 use mathlib.Core.Bool.{Bool, true, false, not, cond, false≢true}
-use mathlib.Core.List.{List, [], _∷_, map}
-use Prim.Native.Nat.{ℕ, zero, suc, _+_, _*_, _/_, _%_, _^_, _<_, _≤_, min}
+use mathlib.Core.List.{List, [], _∷_, map, map-map}
+use Prim.Native.Nat.{ℕ, zero, suc, _/_, _%_, _^_, _<_, _≤_}
 use native.Mathlib.Omega.{arith}
-use native.Mathlib.Nat.{pow-suc, div-one}
-use lib.Bits.{bitAnd, bitXor, differ, and-shr, xor-shr, and-step, xor-step}
 use lib.Dec.{eqb}
 use lib.ListN.{length, getD, take, drop, length-take, drop-of-length-le}
 use lib.Seq.{drop-cons, getD-take}
 use borrow.Author.Tests.{ne-eqb}
-use Rattle.sets.specs.Lists.{Elem, _&_, either, any, empty, concat, among, _∪_}
-use Rattle.sets.proofs.Lists.{iff, and-i, and-l, and-r, in-any, in-keep, keep-out, among-in, eq-eqb, eqb-eq}
-use Rattle.sets.specs.Bits.{inBit, readBit, has, join, meet, less, grant, joins}
-use Rattle.sets.proofs.Bits.{has-or, has-none, has-self, has-half, or-has-l, same-bits}
+use Rattle.sets.specs.Lists.{_&_, either, any, empty, concat, among, _∪_}
+use Rattle.sets.proofs.Lists.{iff, and-i, and-l, and-r, in-keep, keep-out, among-in, in-among}
+use Rattle.sets.specs.Bits.{inBit, readBit, has, join, less, grant, joins}
+use Rattle.sets.proofs.Bits.{has-or, has-none, has-self, or-has-l, same-bits, mem-one, has-rest, less-none}
 use Rattle.sets.proofs.Joins.{join-none, join-none-r, join-assoc}
 use Rattle.klaim.specs.declared.Site.{Site}
 use Rattle.klaim.specs.declared.Var.{Var}
@@ -30,58 +28,12 @@ use Rattle.tables.proofs.Lines.{tree-at, Child, Next, next}
 use Rattle.whole.specs.declared.Names.{Names}
 use Rattle.whole.specs.declared.Names.the-variants.{Ends, Follows, Fields, Forks}
 use Rattle.whole.specs.Free.{maskOf, varIn, freeFields, freeForks, namesOf}
-use Rattle.whole.proofs.Order.{and-true}
-
--- the set of one number has that number alone
-suc-eqb : (n u : ℕ) → eqb n u ≡ eqb (suc n) (suc u)
-suc-eqb n u = iff (λ t. subst (λ (m : ℕ). eqb (suc n) (suc m) ≡ true) (eqb-eq t) (eq-eqb (suc n))) (λ t. subst (λ (m : ℕ). eqb n m ≡ true) (less-one (eqb-eq t)) (eq-eqb n))
-  where
-    less-one : suc n ≡ suc u → n ≡ u
-    less-one e = omega arith
-
-even : (x : ℕ) → x % 2 ≡ 0 → has x (2 ^ 0) ≡ false
-unfolding has
-even x e = rw (div-one, e)
-
-has-one : (u n : ℕ) → has (2 ^ u) (2 ^ n) ≡ eqb n u
-has-one zero zero = has-self 0
-has-one (suc u) zero = even (2 ^ suc u) (rw pow-suc (omega arith)) ∙ sym (ne-eqb 0 (suc u) (λ e. omega arith))
-has-one zero (suc n) = sym (has-half n (2 ^ 0)) ∙ has-none n ∙ sym (ne-eqb (suc n) 0 (λ e. omega arith))
-has-one (suc u) (suc n) = sym (has-half n (2 ^ suc u)) ∙ ap (λ (x : ℕ). has x (2 ^ n)) half ∙ has-one u n ∙ suc-eqb n u
-  where
-    half : 2 ^ suc u / 2 ≡ 2 ^ u
-    half = rw pow-suc (omega arith)
-
--- a set less another has what it has and the other lacks
-low-is : (z k : ℕ) → z % 2 ≡ k → eqb (z % 2) 1 ≡ eqb k 1
-low-is z k e = ap (λ (v : ℕ). eqb v 1) e
-
-digits : (z x y d : ℕ) → x < 2 → y < 2 → z ≡ d * 2 + differ x (min x y) → eqb (z % 2) 1 ≡ (eqb x 1 & not (eqb y 1))
-unfolding _&_
-digits z zero zero d p q f = low-is z 0 (omega arith)
-digits z zero (suc y) d p q f = low-is z 0 (omega arith)
-digits z (suc zero) zero d p q f = low-is z 1 (omega arith)
-digits z (suc zero) (suc zero) d p q f = low-is z 0 (omega arith)
-digits z (suc zero) (suc (suc y)) d p q f = absurd (omega arith)
-digits z (suc (suc x)) y d p q f = absurd (omega arith)
-
-has-rest : (a b n : ℕ) → has (less a b) (2 ^ n) ≡ (has a (2 ^ n) & not (has b (2 ^ n)))
-unfolding has less meet
-has-rest a b n = rw (xor-shr a (bitAnd a b) n, and-shr a b n) (low (a / 2 ^ n) (b / 2 ^ n))
-  where
-    low : (x y : ℕ) → eqb (bitXor x (bitAnd x y) % 2) 1 ≡ (eqb (x % 2) 1 & not (eqb (y % 2) 1))
-    low x y =
-        let e : bitAnd x y % 2 ≡ min (x % 2) (y % 2) = omega (arith, and-step x y) in
-        digits (bitXor x (bitAnd x y)) (x % 2) (y % 2) (bitXor (x / 2) (bitAnd x y / 2)) (omega arith) (omega arith) (rw e at (xor-step x (bitAnd x y)))
-
-less-none : (a : ℕ) → less a 0 ≡ a
-less-none a = same-bits _ _ (λ n. has-rest a 0 n ∙ ap (λ (b : Bool). has a (2 ^ n) & not b) (has-none n) ∙ and-true (has a (2 ^ n)))
 
 -- the set of a list has its elements
 pub mask-has : (xs : List ℕ) (n : ℕ) → has (maskOf xs) (2 ^ n) ≡ among xs n
 unfolding maskOf joins among any
 mask-has [] n = has-none n
-mask-has (x ∷ xs) n = has-or (2 ^ x) (maskOf xs) n ∙ ap₂ either (has-one x n) (mask-has xs n)
+mask-has (x ∷ xs) n = has-or (2 ^ x) (maskOf xs) n ∙ ap₂ either (mem-one n x) (mask-has xs n)
 
 pub mask-empty : (xs : List ℕ) → eqb (maskOf xs) 0 ≡ empty xs
 unfolding maskOf joins empty
@@ -96,10 +48,6 @@ mask-union : (xs ys : List ℕ) → maskOf (xs ∪ ys) ≡ join (maskOf xs) (mas
 unfolding maskOf joins _∪_
 mask-union [] ys = sym (join-none (maskOf ys))
 mask-union (x ∷ xs) ys = ap (join (2 ^ x)) (mask-union xs ys) ∙ sym (join-assoc (2 ^ x) (maskOf xs) (maskOf ys))
-
-in-among : {xs : List ℕ} {n : ℕ} → Elem n xs → among xs n ≡ true
-unfolding among
-in-among i = in-any eqb eq-eqb i
 
 -- an element is kept if it is not in us
 among-without : (us xs : List ℕ) (n : ℕ) → among (without us xs) n ≡ (among xs n & not (among us n))
@@ -215,10 +163,6 @@ get-free q r g cs a =
     ∙ ap₂ join (mask-union (usedIn (Value g)) (concat usedIn (map slotOf cs)) ∙ ap (join (maskOf (usedIn (Value g)))) (mask-fields usedIn slotOf 2 used-slot cs))
     (mask-without (concat boundIn (map slotOf cs)) (free a) ∙ ap (less (maskOf (free a))) (mask-fields boundIn slotOf 3 bound-slot cs)))
 
-map-map : (cs : List ℕ) → map Value (map locOf cs) ≡ map (λ c. Value (locOf c)) cs
-map-map [] = refl
-map-map (c ∷ cs) = ap (λ (l : List Slot). Value (locOf c) ∷ l) (map-map cs)
-
 out-free : (q : ℕ) (g : Loc) (cs : List ℕ) (a : Tree) → join (join (maskOf (usedIn (Value g))) (joins (varIn 2) cs)) (less (maskOf (free a)) 0) ≡ maskOf (free (outT q g (map locOf cs) a))
 unfolding free concat
 out-free q g cs a =
@@ -227,7 +171,7 @@ out-free q g cs a =
     (sym (less-none (maskOf (free a)))))
   where
     mask-values : (cs : List ℕ) → maskOf (concat usedIn (map Value (map locOf cs))) ≡ joins (varIn 2) cs
-    mask-values cs = ap (λ (l : List Slot). maskOf (concat usedIn l)) (map-map cs) ∙ mask-fields usedIn (λ c. Value (locOf c)) 2 used-loc cs
+    mask-values cs = ap (λ (l : List Slot). maskOf (concat usedIn l)) (map-map Value locOf cs) ∙ mask-fields usedIn (λ c. Value (locOf c)) 2 used-loc cs
 
 free-of : (f : ℕ → Tree) (q : ℕ) (cs : List ℕ) (x : Action) → freeBy f cs (namesOf x) ≡ maskOf (free (node f q (actionLine x cs)))
 unfolding freeBy freeFields freeForks namesOf free node actionLine joins usedIn

@@ -2,14 +2,14 @@
 -- Assumes nothing.
 use mathlib.Core.Path.{_≡_, refl, sym, ap, _∙_}
 use mathlib.Core.Bool.{Bool, true, false}
-use mathlib.Core.List.{List, [], _∷_, map}
+use mathlib.Core.List.{List, map}
 use Prim.Native.Nat.{ℕ, zero, suc, _+_, _*_, _<_, _≤_}
 use native.Mathlib.Omega.{arith}
 use lib.Dec.{ltb}
 use lib.ListN.{getD}
 use borrow.Author.Tests.{lt-ltb, le-ltb}
-use Rattle.sets.specs.Lists.{_&_, all, empty, tableFrom, table, below}
-use Rattle.sets.proofs.Lists.{ltb-lt}
+use Rattle.sets.specs.Lists.{_&_, all, empty, tableFrom, table}
+use Rattle.sets.proofs.Lists.{ltb-lt, and-true, all-map}
 use Rattle.sets.proofs.Tables.{table-all}
 use Rattle.klaim.specs.Process.{children, orderedFrom, ordered, tree, free}
 use Rattle.klaim.specs.Net.{Root}
@@ -20,16 +20,6 @@ use Rattle.whole.specs.declared.Children.{Children}
 use Rattle.whole.specs.declared.Children.the-variants.{Zero, One, Two}
 use Rattle.whole.specs.Children.{listOf}
 use Rattle.whole.specs.RootsIn.{RootsIn}
-
-pub map-all : {A B : Type 0} (g : B → Bool) (f : A → B) (xs : List A) → all g (map f xs) ≡ all (λ x. g (f x)) xs
-unfolding all
-map-all g f [] = refl
-map-all g f (x ∷ xs) = ap (λ (b : Bool). g (f x) & b) (map-all g f xs)
-
-pub and-true : (b : Bool) → (b & true) ≡ b
-unfolding _&_
-and-true true = refl
-and-true false = refl
 
 -- a child c of line q
 module _ (q n : ℕ) {x c : ℕ} (e : x ≡ c) where
@@ -75,7 +65,7 @@ order-all n bs = ap (λ (k : ℕ). orderedFrom 0 k (tableFrom n 0 (lineOf bs))) 
 -- the tests of the roots
 pub present-all : (n m : ℕ) (rs : List ℕ) → all (λ q. ltb q n) (map (λ (x : Root). x .line) (rootsView m rs)) ≡ all (λ (x : Root). ltb (x .line) n) (table m (rootAt rs))
 unfolding rootsView
-present-all n m rs = map-all (λ q. ltb q n) (λ x. x .line) (table m (rootAt rs))
+present-all n m rs = all-map (λ q. ltb q n) (λ x. x .line) (table m (rootAt rs))
 
 -- the process of root x has no free variable
 abbrev pub closedRoot : ℕ → List ℕ → Root → Bool
@@ -83,7 +73,7 @@ closedRoot n bs x = empty (free (tree (linesView n bs) (x .line)))
 
 pub closed-all : (n : ℕ) (bs : List ℕ) (m : ℕ) (rs : List ℕ) → rootsClosed (linesView n bs) (map (λ (x : Root). x .line) (rootsView m rs)) ≡ all (closedRoot n bs) (table m (rootAt rs))
 unfolding rootsClosed rootsView
-closed-all n bs m rs = map-all (λ q. empty (free (tree (linesView n bs) q))) (λ x. x .line) (table m (rootAt rs))
+closed-all n bs m rs = all-map (λ q. empty (free (tree (linesView n bs) q))) (λ x. x .line) (table m (rootAt rs))
 
 -- the line of root i
 pub root-form : {n : ℕ} {bs : List ℕ} {m : ℕ} {rs : List ℕ} → RootsIn n bs m rs → (i : ℕ) → i < m → InForm n bs (getD rs (2 * i + 1) 0)

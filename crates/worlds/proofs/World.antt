@@ -6,7 +6,6 @@ use mathlib.Core.List.{List}
 use Prim.Native.Nat.{ℕ}
 use lib.Dec.{eqb}
 use borrow.Author.Tests.{eq-eqb, ne-eqb}
-use Rattle.klaim.specs.Net as Spec
 use Rattle.klaim.specs.Reader.{Answer, refused, gives, andThen, World, readEstimate}
 use Rattle.tables.specs.View.{netView, estimateView}
 use Rattle.nets.specs.declared.NetRead.{NetRead}

@@ -3,23 +3,16 @@ use mathlib.Core.Path.{_∙_}
 use Rattle.arrivals.proofs.Whole.{turn-out, turn-empty, turn-ordered}
 use Rattle.arrivals.proofs.in_turn.Statement.{statement}
 use Rattle.arrivals.proofs.in_turn.Tie as tie
-use Rattle.arrivals.proofs.in_turn.Reads as reads
-use Rattle.arrivals.proofs.in_turn.Lts as lts
-use Rattle.whole.proofs.in_order.Reads as in-order-reads
 
--- src/lib.rt:121:13
 in-order-requires : tie.Need-in-order-requires
 in-order-requires c κs = search needs
 
--- src/lib.rt:121:13
 returns : tie.Need-returns
 returns c = c .in-order .ensures ∙ turn-ordered _ _ _ (c .before .before .if1 .taken) (c .before .if2 .taken)
 
--- src/lib.rt:115:1
 returns-2 : tie.Need-returns-2
 returns-2 c = turn-empty _ _ _ (c .if2 .left)
 
--- src/lib.rt:115:1
 returns-3 : tie.Need-returns-3
 returns-3 c = turn-out _ _ _ (c .if1 .left)
 

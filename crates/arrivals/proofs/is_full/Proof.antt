@@ -1,24 +1,19 @@
 use borrow.Author.Needs.{needs}
 use Rattle.arrivals.proofs.is_full.Statement.{statement}
 use Rattle.arrivals.proofs.is_full.Tie as tie
-use Rattle.arrivals.proofs.is_full.Reads as reads
-use Rattle.arrivals.proofs.is_full.Lts as lts
 use borrow.Author.Tests.{eq-eqb, ne-eqb}
 use Rattle.sets.specs.Lists.{_&_}
 use Rattle.arrivals.specs.Rows.{fullOf}
 
 ruleset tests = (needs, eq-eqb, ne-eqb)
 
--- src/lib.rt:44:25
 add-result : tie.Need-add-result
 add-result c = search needs
 
--- src/lib.rt:44:9
 returns : tie.Need-returns
 unfolding fullOf _&_
 returns c = search tests
 
--- src/lib.rt:38:1
 returns-2 : tie.Need-returns-2
 unfolding fullOf _&_
 returns-2 c = search tests

@@ -7,14 +7,6 @@ use Rattle.arrivals.proofs.Rows.{of-group, room}
 use Rattle.arrivals.proofs.Loop.{Reading, row-within, reading-start, reading-more, reading-bad, reading-end}
 use Rattle.arrivals.proofs.read_rows.Statement.{statement}
 use Rattle.arrivals.proofs.read_rows.Tie as tie
-use Rattle.arrivals.proofs.read_rows.Reads as reads
-use Rattle.arrivals.proofs.read_rows.Lts as lts
-use Rattle.arrivals.proofs.row_number.Reads as row-number-reads
-use Rattle.arrivals.proofs.start.Reads as start-reads
-use Rattle.scan.proofs.counted.Reads as counted-reads
-use Rattle.scan.proofs.row_at.Reads as row-at-reads
-use Rattle.scan.proofs.turned_away.Reads as turned-away-reads
-use Rattle.stores.proofs.put_process.Reads as put-process-reads
 
 abbrev Inv-loop : tie.InvT-loop
 Inv-loop n d s lines₀ tally₀ at₀ lines tally at = Reading n d s lines tally at
@@ -26,27 +18,21 @@ abbrev μ-loop : tie.MeasureT-loop
 long : (c : tie.Start Inv-loop μ-loop) → length (c .args .s .now) < 18446744073709551615
 long c = omega arith
 
--- src/lib.rt:86:9
 start-requires : tie.Need-start-requires Inv-loop μ-loop
 start-requires c κs = search needs
 
--- src/lib.rt:88:5
 loop-holds : tie.Need-loop-holds Inv-loop μ-loop
 loop-holds c = reading-start _ _ _ _ (c .start .ensures)
 
--- src/lib.rt:89:13
--- src/lib.rt:90:13
 row-at-requires : tie.Need-row-at-requires Inv-loop μ-loop
 row-at-requires c κs = c .loop-test .taken
 
--- src/lib.rt:91:13
 row-number-requires : tie.Need-row-number-requires Inv-loop μ-loop
 row-number-requires c κs =
     let R = c .before .before .before .loop .inv in
     let l = c .before .before .loop-test .taken in
     (c .before .row-at .ensures .1 .1, (c .before .before .before .before .before .before .pre, R .few (R .running l) .linesFew))
 
--- src/lib.rt:93:13
 put-process-requires : tie.Need-put-process-requires Inv-loop μ-loop
 put-process-requires c κs =
     let R = c .before .before .before .before .before .before .loop .inv in
@@ -54,7 +40,6 @@ put-process-requires c κs =
     let P = c .before .before .row-number .ensures .1 (c .before .if1 .taken) in
     (c .before .before .before .before .row-at .ensures .1 .1, (P .low, (of-group _ _ _ P, (room _ _ _ P, R .long))))
 
--- src/lib.rt:94:13
 counted-requires : tie.Need-counted-requires Inv-loop μ-loop
 counted-requires c κs =
     let R = c .before .before .before .before .before .before .before .loop .inv in
@@ -62,7 +47,6 @@ counted-requires c κs =
     let f = R .few (R .running l) in
     (omega (arith, R .counted, l, long (c .before .before .before .before .before .before .before .before .before .before)), (omega (arith, f .tupleless), omega (arith, f .rootless), omega (arith, f .linesFew)))
 
--- src/lib.rt:95:18
 add-at : tie.Need-add-at Inv-loop μ-loop
 add-at c =
     let R = c .before .before .before .before .before .before .before .before .loop .inv in
@@ -70,14 +54,12 @@ add-at c =
     let e = row-within R l _ (c .before .before .before .before .before .before .row-at .ensures .0) in
     omega (arith, e, long (c .before .before .before .before .before .before .before .before .before .before .before))
 
--- src/lib.rt:88:5
 loop-less : tie.Need-loop-less Inv-loop μ-loop
 loop-less c =
     let R = c .before .before .before .before .before .before .before .before .loop .inv in
     let l = c .before .before .before .before .before .before .before .loop-test .taken in
     omega (arith, l, c .before .before .before .before .before .before .row-at .ensures .0)
 
--- src/lib.rt:88:5
 loop-again : tie.Need-loop-again Inv-loop μ-loop
 loop-again c =
     let R = c .before .before .before .before .before .before .before .before .loop .inv in
@@ -85,28 +67,24 @@ loop-again c =
     let P = c .before .before .before .before .row-number .ensures .1 (c .before .before .before .if1 .taken) in
     reading-more _ _ _ _ _ _ _ _ _ R l (c .before .before .before .before .before .before .row-at .ensures .1 .0) (c .before .before .before .before .row-number .ensures .0) (c .before .before .before .before .before .before .row-at .ensures .1 .1) (c .before .before .before .if1 .taken) (omega (arith, c .before .before .before .before .before .before .row-at .ensures .0)) P (c .before .put-process .ensures .0) (c .before .put-process .ensures .1) _ (c .counted .ensures)
 
--- src/lib.rt:97:13
 turned-away-requires : tie.Need-turned-away-requires Inv-loop μ-loop
 turned-away-requires c κs =
     let R = c .before .before .before .before .before .loop .inv in
     let l = c .before .before .before .before .loop-test .taken in
     omega (arith, R .counted, l, long (c .before .before .before .before .before .before .before .before))
 
--- src/lib.rt:88:5
 loop-less-2 : tie.Need-loop-less-2 Inv-loop μ-loop
 loop-less-2 c =
     let R = c .before .before .before .before .before .before .loop .inv in
     let l = c .before .before .before .before .before .loop-test .taken in
     omega (arith, l)
 
--- src/lib.rt:88:5
 loop-again-2 : tie.Need-loop-again-2 Inv-loop μ-loop
 loop-again-2 c =
     let R = c .before .before .before .before .before .before .loop .inv in
     let l = c .before .before .before .before .before .loop-test .taken in
     reading-bad _ _ _ _ _ _ (c .before .before .before .before .row-at .result .end + 1) _ _ R l (c .before .before .before .before .row-at .ensures .1 .0) (c .before .before .row-number .ensures .0) (c .before .if1 .left) _ (c .turned-away .ensures .0) (c .turned-away .ensures .1 .0) _ refl
 
--- src/lib.rt:81:1
 returns : tie.Need-returns Inv-loop μ-loop
 returns c = reading-end _ _ _ _ _ _ (c .before .loop .inv) (c .loop-test .left)
 

@@ -8,35 +8,25 @@ use Rattle.scan.proofs.Numbers.{early-passed}
 use Rattle.arrivals.proofs.Rows.{number-early, number-late, passed}
 use Rattle.arrivals.proofs.row_number.Statement.{statement}
 use Rattle.arrivals.proofs.row_number.Tie as tie
-use Rattle.arrivals.proofs.row_number.Reads as reads
-use Rattle.arrivals.proofs.row_number.Lts as lts
-use Rattle.arrivals.proofs.is_full.Reads as is-full-reads
-use Rattle.scan.proofs.early.Reads as early-reads
-use Rattle.scan.proofs.late.Reads as late-reads
 
--- src/lib.rt:57:34
 is-full-requires : tie.Need-is-full-requires
 is-full-requires c κs = search needs
 
--- src/lib.rt:57:9
 early-requires : tie.Need-early-requires
 early-requires c κs = search needs
 
--- src/lib.rt:59:9
 returns : tie.Need-returns
 returns c =
     let s = c .before .before .before in
     let e = c .before .early .ensures ∙ ap (λ (x : Bool). earlyOf (s .args .row) x (eqb (s .args .row .group) groupQ)) (c .before .before .is-full .ensures) in
     (λ n above lines Y. number-early n (s .args .d) above lines (s .args .row) (s .args .tally) (s .pre .0) Y _ e (c .if1 .taken), λ z. absurd (c .if1 .taken z))
 
--- src/lib.rt:61:5
 late-requires : tie.Need-late-requires
 late-requires c κs =
     let s = c .before .before .before in
     let e = c .before .early .ensures ∙ ap (λ (x : Bool). earlyOf (s .args .row) x (eqb (s .args .row .group) groupQ)) (c .before .before .is-full .ensures) in
     (s .pre .0, early-passed (s .args .row) (sym e ∙ c .if1 .left) .0)
 
--- src/lib.rt:50:1
 returns-2 : tie.Need-returns-2
 returns-2 c =
     let s = c .before .before .before .before in

@@ -2,10 +2,7 @@ use borrow.Author.Needs.{needs}
 use Rattle.arrivals.specs.Rows.{startOf}
 use Rattle.arrivals.proofs.start.Statement.{statement}
 use Rattle.arrivals.proofs.start.Tie as tie
-use Rattle.arrivals.proofs.start.Reads as reads
-use Rattle.arrivals.proofs.start.Lts as lts
 
--- src/lib.rt:65:1
 returns : tie.Need-returns
 unfolding startOf
 returns c = search needs

@@ -3,51 +3,37 @@ use mathlib.Core.Path.{sym, _∙_}
 use Rattle.arrivals.proofs.Whole.{turn-form, whole-turn, whole-named, whole-open, whole-none}
 use Rattle.arrivals.proofs.whole_number.Statement.{statement}
 use Rattle.arrivals.proofs.whole_number.Tie as tie
-use Rattle.arrivals.proofs.whole_number.Reads as reads
-use Rattle.arrivals.proofs.whole_number.Lts as lts
-use Rattle.arrivals.proofs.in_turn.Reads as in-turn-reads
-use Rattle.whole.proofs.closed.Reads as closed-reads
-use Rattle.whole.proofs.named_first.Reads as named-first-reads
-use Rattle.whole.proofs.named_once_from.Reads as named-once-from-reads
 
--- src/lib.rt:132:8
 in-turn-requires : tie.Need-in-turn-requires
 in-turn-requires c κs = search needs
 
--- src/lib.rt:133:13
 named-first-requires : tie.Need-named-first-requires
 named-first-requires c κs = search needs
 
--- src/lib.rt:134:12
 named-once-from-requires : tie.Need-named-once-from-requires
 named-once-from-requires c κs = search needs
 
--- src/lib.rt:135:16
 closed-requires : tie.Need-closed-requires
 closed-requires c κs = (turn-form _ _ _ (sym (c .before .before .before .before .in-turn .ensures) ∙ c .before .before .before .if1 .taken), c .before .before .before .before .before .pre .1)
 
--- src/lib.rt:136:17
 returns : tie.Need-returns
 returns c =
     let t = sym (c .before .before .before .before .before .before .in-turn .ensures) ∙ c .before .before .before .before .before .if1 .taken in
     let m = c .before .before .before .named-once-from .ensures _ (c .before .before .before .before .named-first .ensures) in
     whole-none _ _ t (sym m ∙ c .before .before .if2 .taken) (sym (c .before .closed .ensures) ∙ c .if3 .taken)
 
--- src/lib.rt:138:13
 returns-2 : tie.Need-returns-2
 returns-2 c =
     let t = sym (c .before .before .before .before .before .before .in-turn .ensures) ∙ c .before .before .before .before .before .if1 .taken in
     let m = c .before .before .before .named-once-from .ensures _ (c .before .before .before .before .named-first .ensures) in
     whole-open _ _ t (sym m ∙ c .before .before .if2 .taken) (sym (c .before .closed .ensures) ∙ c .if3 .left)
 
--- src/lib.rt:140:9
 returns-3 : tie.Need-returns-3
 returns-3 c =
     let t = sym (c .before .before .before .before .in-turn .ensures) ∙ c .before .before .before .if1 .taken in
     let m = c .before .named-once-from .ensures _ (c .before .before .named-first .ensures) in
     whole-named _ _ t (sym m ∙ c .if2 .left)
 
--- src/lib.rt:128:1
 returns-4 : tie.Need-returns-4
 returns-4 c = whole-turn _ _ (sym (c .before .in-turn .ensures) ∙ c .if1 .left)
 

@@ -1,20 +1,16 @@
 use borrow.Author.Needs.{needs}
 use Rattle.estimates.proofs.is_full.Statement.{statement}
 use Rattle.estimates.proofs.is_full.Tie as tie
-use Rattle.estimates.proofs.is_full.Reads as reads
-use Rattle.estimates.proofs.is_full.Lts as lts
 use borrow.Author.Tests.{eq-eqb, ne-eqb, le-leb, lt-leb}
 use Rattle.sets.specs.Lists.{_&_}
 use Rattle.estimates.specs.Rows.{fullOf}
 
 ruleset tests = (needs, eq-eqb, ne-eqb, le-leb, lt-leb)
 
--- src/lib.rt:34:9
 returns : tie.Need-returns
 unfolding fullOf _&_
 returns c = search tests
 
--- src/lib.rt:29:1
 returns-2 : tie.Need-returns-2
 unfolding fullOf _&_
 returns-2 c = search tests

@@ -1,20 +1,16 @@
 use borrow.Author.Needs.{needs}
 use Rattle.estimates.proofs.is_placed.Statement.{statement}
 use Rattle.estimates.proofs.is_placed.Tie as tie
-use Rattle.estimates.proofs.is_placed.Reads as reads
-use Rattle.estimates.proofs.is_placed.Lts as lts
 use borrow.Author.Tests.{eq-eqb, ne-eqb, le-leb, lt-leb}
 use Rattle.sets.specs.Lists.{_&_}
 use Rattle.estimates.specs.Rows.{placedOf}
 
 ruleset tests = (needs, eq-eqb, ne-eqb, le-leb, lt-leb)
 
--- src/lib.rt:45:9
 returns : tie.Need-returns
 unfolding placedOf _&_
 returns c = search tests
 
--- src/lib.rt:40:1
 returns-2 : tie.Need-returns-2
 unfolding placedOf _&_
 returns-2 c = search tests

@@ -4,35 +4,24 @@ use Rattle.forms.specs.Forms.{pairGroup, tupleGroup}
 use Rattle.estimates.proofs.Rows.{last-group}
 use Rattle.estimates.proofs.is_seen.Statement.{statement}
 use Rattle.estimates.proofs.is_seen.Tie as tie
-use Rattle.estimates.proofs.is_seen.Reads as reads
-use Rattle.estimates.proofs.is_seen.Lts as lts
-use Rattle.repeats.proofs.bound_seen.Reads as bound-seen-reads
-use Rattle.repeats.proofs.pair_seen.Reads as pair-seen-reads
-use Rattle.repeats.proofs.tuple_seen.Reads as tuple-seen-reads
 
--- src/lib.rt:66:20
 bound-seen-requires : tie.Need-bound-seen-requires
 bound-seen-requires c κs = search needs
 
--- src/lib.rt:67:20
 tuple-seen-requires : tie.Need-tuple-seen-requires
 unfolding tupleGroup either
 tuple-seen-requires c κs = (c .before .pre .0, (c .before .pre .1 .0 .low, (c .before .pre .1 .1 .1 .1, (rw (c .match .keys2), c .before .pre .1 .1 .0))))
 
--- src/lib.rt:68:14
 pair-seen-requires : tie.Need-pair-seen-requires
 unfolding pairGroup either
 pair-seen-requires c κs = (c .before .pre .0, (c .before .pre .1 .0 .low, (c .before .pre .1 .1 .1 .2, rw (last-group (c .before .args .row) (c .before .args .tally) (c .before .pre .0) (c .before .pre .1 .0) (c .match .rest .0 .1) (c .match .rest .1)))))
 
--- src/lib.rt:51:1
 returns : tie.Need-returns
 returns c = λ n above stand Y T K. c .bound-seen .ensures above (Y .kept) (T .bindsIs)
 
--- src/lib.rt:51:1
 returns-2 : tie.Need-returns-2
 returns-2 c = λ n above stand Y T K. c .tuple-seen .ensures above (Y .kept) (rw (c .before .match .keys2) K)
 
--- src/lib.rt:51:1
 returns-3 : tie.Need-returns-3
 returns-3 c = let s = c .before .before in λ n above stand Y T K. c .pair-seen .ensures above (Y .kept) (rw (last-group (s .args .row) (s .args .tally) (s .pre .0) (s .pre .1 .0) (c .before .match .rest .0 .1) (c .before .match .rest .1)) (T .holdIs))
 

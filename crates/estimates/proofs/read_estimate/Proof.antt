@@ -6,14 +6,6 @@ use mathlib.Core.Path.{refl}
 use Rattle.estimates.proofs.Loop.{Reading, row-within, reading-start, reading-more, reading-bad, reading-end}
 use Rattle.estimates.proofs.read_estimate.Statement.{statement}
 use Rattle.estimates.proofs.read_estimate.Tie as tie
-use Rattle.estimates.proofs.read_estimate.Reads as reads
-use Rattle.estimates.proofs.read_estimate.Lts as lts
-use Rattle.estimates.proofs.row_number.Reads as row-number-reads
-use Rattle.estimates.proofs.start.Reads as start-reads
-use Rattle.estimates.proofs.store.Reads as store-reads
-use Rattle.scan.proofs.counted.Reads as counted-reads
-use Rattle.scan.proofs.row_at.Reads as row-at-reads
-use Rattle.scan.proofs.turned_away.Reads as turned-away-reads
 
 abbrev Inv-loop : tie.InvT-loop
 Inv-loop n s binds₀ stand₀ keys₀ hold₀ tally₀ at₀ binds stand keys hold tally at = Reading n s binds stand hold keys tally at
@@ -25,27 +17,21 @@ abbrev μ-loop : tie.MeasureT-loop
 long : (c : tie.Start Inv-loop μ-loop) → length (c .args .s .now) < 18446744073709551615
 long c = omega arith
 
--- src/lib.rt:148:9
 start-requires : tie.Need-start-requires Inv-loop μ-loop
 start-requires c κs = search needs
 
--- src/lib.rt:150:5
 loop-holds : tie.Need-loop-holds Inv-loop μ-loop
 loop-holds c = reading-start _ _ _ (c .start .ensures)
 
--- src/lib.rt:151:13
--- src/lib.rt:152:13
 row-at-requires : tie.Need-row-at-requires Inv-loop μ-loop
 row-at-requires c κs = c .loop-test .taken
 
--- src/lib.rt:153:13
 row-number-requires : tie.Need-row-number-requires Inv-loop μ-loop
 row-number-requires c κs =
     let R = c .before .before .before .before .before .before .loop .inv in
     let l = c .before .before .before .before .before .loop-test .taken in
     (c .before .before .before .before .row-at .ensures .1 .1, (R .running l .few, (R .bindsLong, R .keysLong, R .holdLong)))
 
--- src/lib.rt:155:13
 store-requires : tie.Need-store-requires Inv-loop μ-loop
 store-requires c κs =
     let R = c .before .before .before .before .before .before .before .before .before .before .before .loop .inv in
@@ -57,7 +43,6 @@ keep-key-requires c κs =
     let R = c .before .before .before .before .before .before .before .before .before .before .before .before .before .loop .inv in
     (c .before .before .before .before .before .before .before .before .before .before .before .row-at .ensures .1 .1, (c .before .before .before .before .before .before .row-number .ensures .1 (c .before .before .before .before .before .if1 .taken), R .keysLong))
 
--- src/lib.rt:156:13
 counted-requires : tie.Need-counted-requires Inv-loop μ-loop
 counted-requires c κs =
     let R = c .before .before .before .before .before .before .before .before .before .before .before .before .before .before .loop .inv in
@@ -65,7 +50,6 @@ counted-requires c κs =
     let r = R .running l in
     (omega (arith, R .counted, l, long (c .before .before .before .before .before .before .before .before .before .before .before .before .before .before .before .before .before)), (omega (arith, r .few), omega (arith, r .rootless), omega (arith, r .lineless)))
 
--- src/lib.rt:157:18
 add-at : tie.Need-add-at Inv-loop μ-loop
 add-at c =
     let R = c .before .before .before .before .before .before .before .before .before .before .before .before .before .before .before .loop .inv in
@@ -73,42 +57,36 @@ add-at c =
     let e = row-within R l _ (c .before .before .before .before .before .before .before .before .before .before .before .before .before .row-at .ensures .0) in
     omega (arith, e, long (c .before .before .before .before .before .before .before .before .before .before .before .before .before .before .before .before .before .before))
 
--- src/lib.rt:150:5
 loop-less : tie.Need-loop-less Inv-loop μ-loop
 loop-less c =
     let R = c .before .before .before .before .before .before .before .before .before .before .before .before .before .before .before .loop .inv in
     let l = c .before .before .before .before .before .before .before .before .before .before .before .before .before .before .loop-test .taken in
     omega (arith, l, c .before .before .before .before .before .before .before .before .before .before .before .before .before .row-at .ensures .0)
 
--- src/lib.rt:150:5
 loop-again : tie.Need-loop-again Inv-loop μ-loop
 loop-again c =
     let R = c .before .before .before .before .before .before .before .before .before .before .before .before .before .before .before .loop .inv in
     let l = c .before .before .before .before .before .before .before .before .before .before .before .before .before .before .loop-test .taken in
     reading-more _ _ _ _ _ _ _ _ _ _ _ R l (c .before .before .before .before .before .before .before .before .before .before .before .before .before .row-at .ensures .1 .0) (c .before .before .before .before .before .before .before .before .row-number .ensures .0) (c .before .before .before .before .before .before .before .before .before .before .before .before .before .row-at .ensures .1 .1) (c .before .before .before .before .before .before .before .if1 .taken) (omega (arith, c .before .before .before .before .before .before .before .before .before .before .before .before .before .row-at .ensures .0)) (c .before .before .before .before .before .before .before .before .row-number .ensures .1 (c .before .before .before .before .before .before .before .if1 .taken)) (c .before .before .before .store .ensures .0) (c .before .before .before .store .ensures .1) (c .before .keep-key .ensures .0) (c .before .keep-key .ensures .1) _ (c .counted .ensures)
 
--- src/lib.rt:159:13
 turned-away-requires : tie.Need-turned-away-requires Inv-loop μ-loop
 turned-away-requires c κs =
     let R = c .before .before .before .before .before .before .before .before .loop .inv in
     let l = c .before .before .before .before .before .before .before .loop-test .taken in
     omega (arith, R .counted, l, long (c .before .before .before .before .before .before .before .before .before .before .before))
 
--- src/lib.rt:150:5
 loop-less-2 : tie.Need-loop-less-2 Inv-loop μ-loop
 loop-less-2 c =
     let R = c .before .before .before .before .before .before .before .before .before .loop .inv in
     let l = c .before .before .before .before .before .before .before .before .loop-test .taken in
     omega (arith, l)
 
--- src/lib.rt:150:5
 loop-again-2 : tie.Need-loop-again-2 Inv-loop μ-loop
 loop-again-2 c =
     let R = c .before .before .before .before .before .before .before .before .before .loop .inv in
     let l = c .before .before .before .before .before .before .before .before .loop-test .taken in
     reading-bad _ _ _ _ _ _ _ _ (c .before .before .before .before .before .before .before .row-at .result .end + 1) _ _ R l (c .before .before .before .before .before .before .before .row-at .ensures .1 .0) (c .before .before .row-number .ensures .0) (c .before .if1 .left) _ (c .turned-away .ensures .0) (c .turned-away .ensures .1 .0) _ refl
 
--- src/lib.rt:142:1
 returns : tie.Need-returns Inv-loop μ-loop
 returns c = reading-end _ _ _ _ _ _ _ _ (c .before .loop .inv) (c .loop-test .left)
 

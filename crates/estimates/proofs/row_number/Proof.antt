@@ -5,47 +5,34 @@ use Rattle.scan.specs.Numbers.{earlyOf}
 use Rattle.estimates.proofs.Rows.{number-early, number-seen, number-late, passed, no-process}
 use Rattle.estimates.proofs.row_number.Statement.{statement}
 use Rattle.estimates.proofs.row_number.Tie as tie
-use Rattle.estimates.proofs.row_number.Reads as reads
-use Rattle.estimates.proofs.row_number.Lts as lts
-use Rattle.estimates.proofs.is_full.Reads as is-full-reads
-use Rattle.estimates.proofs.is_placed.Reads as is-placed-reads
-use Rattle.estimates.proofs.is_seen.Reads as is-seen-reads
-use Rattle.scan.proofs.early.Reads as early-reads
 
--- src/lib.rt:87:34
 is-full-requires : tie.Need-is-full-requires
 is-full-requires c κs = search needs
 
--- src/lib.rt:87:57
 is-placed-requires : tie.Need-is-placed-requires
 is-placed-requires c κs = search needs
 
--- src/lib.rt:87:9
 early-requires : tie.Need-early-requires
 early-requires c κs = search needs
 
--- src/lib.rt:89:9
 returns : tie.Need-returns
 returns c =
     let s = c .before .before .before .before in
     let e = c .before .early .ensures ∙ ap₂ (earlyOf (s .args .row)) (c .before .before .before .is-full .ensures) (c .before .before .is-placed .ensures) in
     (λ n above stand Y T K. number-early n above (s .args .row) (s .args .tally) (s .pre .0) Y T _ e (c .if1 .taken), λ z. absurd (c .if1 .taken z))
 
--- src/lib.rt:91:8
 is-seen-requires : tie.Need-is-seen-requires
 is-seen-requires c κs =
     let s = c .before .before .before .before in
     let e = c .before .early .ensures ∙ ap₂ (earlyOf (s .args .row)) (c .before .before .before .is-full .ensures) (c .before .before .is-placed .ensures) in
     (s .pre .0, (passed (s .args .row) (s .args .tally) (sym e ∙ c .if1 .left), (s .pre .1 .0, s .pre .1 .1)))
 
--- src/lib.rt:92:9
 returns-2 : tie.Need-returns-2
 returns-2 c =
     let s = c .before .before .before .before .before .before in
     let e = c .before .before .before .early .ensures ∙ ap₂ (earlyOf (s .args .row)) (c .before .before .before .before .before .is-full .ensures) (c .before .before .before .before .is-placed .ensures) in
     (λ n above stand Y T K. number-seen n above (s .args .row) (s .args .tally) (s .pre .0) Y T (sym e ∙ c .before .before .if1 .left) (sym (c .if2 .taken) ∙ c .before .is-seen .ensures n above stand Y T K), λ z. absurd (omega arith))
 
--- src/lib.rt:94:5
 sited-requires : tie.Need-sited-requires
 sited-requires c κs =
     let s = c .before .before .before .before .before .before in
@@ -53,7 +40,6 @@ sited-requires c κs =
     let P = passed (s .args .row) (s .args .tally) (sym e ∙ c .before .before .if1 .left) in
     (s .pre .0, (P .some, no-process (s .args .row) (s .args .tally) P))
 
--- src/lib.rt:73:1
 returns-3 : tie.Need-returns-3
 returns-3 c =
     let s = c .before .before .before .before .before .before .before in

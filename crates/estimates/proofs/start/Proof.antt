@@ -2,10 +2,7 @@ use borrow.Author.Needs.{needs}
 use Rattle.estimates.specs.Rows.{startOf}
 use Rattle.estimates.proofs.start.Statement.{statement}
 use Rattle.estimates.proofs.start.Tie as tie
-use Rattle.estimates.proofs.start.Reads as reads
-use Rattle.estimates.proofs.start.Lts as lts
 
--- src/lib.rt:126:1
 returns : tie.Need-returns
 unfolding startOf
 returns c = search needs

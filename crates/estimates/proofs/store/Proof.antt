@@ -4,17 +4,10 @@ use Rattle.forms.specs.Forms.{pairGroup, tupleGroup}
 use Rattle.estimates.proofs.Rows.{last-group, stored-b, stored-a, stored-e, room-a}
 use Rattle.estimates.proofs.store.Statement.{statement}
 use Rattle.estimates.proofs.store.Tie as tie
-use Rattle.estimates.proofs.store.Reads as reads
-use Rattle.estimates.proofs.store.Lts as lts
-use Rattle.stores.proofs.put_bound.Reads as put-bound-reads
-use Rattle.stores.proofs.put_pair.Reads as put-pair-reads
-use Rattle.stores.proofs.put_row.Reads as put-row-reads
 
--- src/lib.rt:114:13
 put-bound-requires : tie.Need-put-bound-requires
 put-bound-requires c κs = search needs
 
--- src/lib.rt:117:13
 put-row-requires : tie.Need-put-row-requires
 unfolding tupleGroup either
 put-row-requires c κs =
@@ -22,7 +15,6 @@ put-row-requires c κs =
     let P = s .pre .1 .0 in
     (s .pre .0, (P .low, (rw (c .before .match .keys2), (room-a (s .args .row) (s .args .tally) P (c .before .match .keys2), s .pre .1 .1 .1))))
 
--- src/lib.rt:120:13
 put-pair-requires : tie.Need-put-pair-requires
 unfolding pairGroup either
 put-pair-requires c κs =
@@ -30,21 +22,18 @@ put-pair-requires c κs =
     let P = s .pre .1 .0 in
     (s .pre .0, (P .low, (rw (last-group (s .args .row) (s .args .tally) (s .pre .0) P (c .before .match .rest .0 .1) (c .before .match .rest .1)), s .pre .1 .1 .2)))
 
--- src/lib.rt:98:1
 returns : tie.Need-returns
 returns c =
     let s = c .before .before .before in
     let P = s .pre .1 .0 in
     ((c .put-bound .ensures .0, s .pre .1 .1 .1, s .pre .1 .1 .2), λ above T. stored-b (s .args .row) (s .args .tally) (s .pre .0) P T (c .before .before .match .keys1) (c .put-bound .ensures .1 above))
 
--- src/lib.rt:98:1
 returns-2 : tie.Need-returns-2
 returns-2 c =
     let s = c .before .before .before in
     let P = s .pre .1 .0 in
     ((s .pre .1 .1 .0, c .put-row .ensures .0, s .pre .1 .1 .2), λ above T. stored-a (s .args .row) (s .args .tally) (s .pre .0) P T (c .before .before .match .keys2) (c .put-row .ensures .0) (c .put-row .ensures .1))
 
--- src/lib.rt:98:1
 returns-3 : tie.Need-returns-3
 returns-3 c =
     let s = c .before .before .before in

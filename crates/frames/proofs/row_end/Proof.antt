@@ -1,48 +1,17 @@
--- The invariant: the place lies within the bytes.
--- Assumes nothing.
-use Prim.Native.Nat.{_-_, _≤_}
-use lib.ListN.{length}
+use native.Mathlib.Omega.{arith}
+use Rattle.klaim.specs.Rows.{newline}
+use Rattle.text.proofs.Pieces.{end-le}
 use borrow.Author.Needs.{needs}
 use Rattle.frames.proofs.row_end.Statement.{statement}
 use Rattle.frames.proofs.row_end.Tie as tie
 
-abbrev Inv-loop : tie.InvT-loop
-Inv-loop input at i₀ i = (at ≤ i) × (i ≤ length input)
+row-end-requires : tie.Need-row-end-requires
+row-end-requires c κs = search needs
 
-abbrev μ-loop : tie.MeasureT-loop
-μ-loop input at i₀ i = length input - i
-
-loop-holds : tie.Need-loop-holds Inv-loop μ-loop
-loop-holds c = search needs
-
-shared-slice-read-if1 : tie.Need-shared-slice-read-if1 Inv-loop μ-loop
-shared-slice-read-if1 c = search needs
-
-returns : tie.Need-returns Inv-loop μ-loop
-returns c = search needs
-
-add-i : tie.Need-add-i Inv-loop μ-loop
-add-i c = search needs
-
-loop-less : tie.Need-loop-less Inv-loop μ-loop
-loop-less c = search needs
-
-loop-again : tie.Need-loop-again Inv-loop μ-loop
-loop-again c = search needs
-
-returns-2 : tie.Need-returns-2 Inv-loop μ-loop
-returns-2 c = search needs
+returns : tie.Need-returns
+returns c =
+    let s = c .before .before in
+    omega (arith, c .row-end .ensures, end-le newline (s .args .input .now) (s .args .at) (s .pre))
 
 pub row-end-spec : {M : Type 1} → statement M
-row-end-spec =
-    tie.close
-    (tie.spec
-    Inv-loop
-    μ-loop
-    loop-holds
-    shared-slice-read-if1
-    returns
-    add-i
-    loop-less
-    loop-again
-    returns-2)
+row-end-spec = tie.close (tie.spec row-end-requires returns)

@@ -4,55 +4,37 @@ use Rattle.checker.proofs.Laws.{sound}
 use Rattle.listing.proofs.Reading.{list-long, list-parts, row-low, part-net, part-estimate, take-short, behind-short, part-count}
 use Rattle.listing.proofs.list.Statement.{statement}
 use Rattle.listing.proofs.list.Tie as tie
-use Rattle.listing.proofs.list.Reads as reads
-use Rattle.listing.proofs.list.Lts as lts
-use Rattle.listing.proofs.list_read.Reads as list-read-reads
-use Rattle.listing.proofs.put_refusal.Reads as put-refusal-reads
-use Rattle.parts.proofs.before.Reads as before-reads
-use Rattle.parts.proofs.behind.Reads as behind-reads
-use Rattle.worlds.proofs.read_both.Reads as read-both-reads
 
--- src/lib.rt:176:9
 put-refusal-requires : tie.Need-put-refusal-requires
 put-refusal-requires c κs = search needs
 
--- src/lib.rt:176:9
 returns : tie.Need-returns
 returns c = (wrote-as (list-long _ (c .before .before .if1 .taken)) (c .put-refusal .ensures .0), c .put-refusal .ensures .1)
 
--- src/lib.rt:178:9
 before-requires : tie.Need-before-requires
 before-requires c κs = search needs
 
--- src/lib.rt:179:9
 behind-requires : tie.Need-behind-requires
 behind-requires c κs = search needs
 
--- src/lib.rt:180:31
 slice-aggregate-read-both : tie.Need-slice-aggregate-read-both
 slice-aggregate-read-both c = part-count _ _ (c .before .before .before2 .ensures)
 
--- src/lib.rt:180:44
 sub-read-both : tie.Need-sub-read-both
 sub-read-both c = search needs
 
--- src/lib.rt:180:44
 part-read-both-start : tie.Need-part-read-both-start
 part-read-both-start c = search needs
 
--- src/lib.rt:180:44
 part-read-both-end : tie.Need-part-read-both-end
 part-read-both-end c = search needs
 
--- src/lib.rt:180:9
 read-both-requires : tie.Need-read-both-requires
 read-both-requires c κs = search needs
 
--- src/lib.rt:181:5
 list-read-requires : tie.Need-list-read-requires
 list-read-requires c κs = let e = c .before .read-both .ensures in (λ z. sound _ _ _ e z, λ h. row-low (c .before .before .before .before .before .before .before .before .args .input .now) _ _ _ (c .before .before .before .before .before .before .if1 .left) (take-short (c .before .before .before .before .before .before2 .result) (c .before .before .before .before .before .before .before .before .args .input .now)) (behind-short (c .before .before .before .before .behind .result) (c .before .before .before .before .before .before .before .before .args .input .now)) e h, search needs)
 
--- src/lib.rt:172:1
 returns-2 : tie.Need-returns-2
 returns-2 c = (wrote-as (list-parts (c .before .before .before .before .before .before .before .before .before .args .input .now) _ _ _ (c .before .before .before .before .before .before .before .if1 .left) (c .before .before .read-both .ensures) (part-net _ _ (c .before .before .before .before .before .before .before2 .ensures)) (part-estimate _ _ (c .before .before .before .before .before .behind .ensures .1))) (c .list-read .ensures .0), c .list-read .ensures .1)
 

@@ -3,34 +3,22 @@ use Rattle.writer.proofs.Wrote.{wrote-long, wrote-as}
 use Rattle.listing.proofs.Reading.{accepted-world, report-long, counts-by, size-few, world-few}
 use Rattle.listing.proofs.list_accepted.Statement.{statement}
 use Rattle.listing.proofs.list_accepted.Tie as tie
-use Rattle.listing.proofs.list_accepted.Reads as reads
-use Rattle.listing.proofs.list_accepted.Lts as lts
-use Rattle.checker.proofs.reported.Reads as reported-reads
-use Rattle.listing.proofs.held.Reads as held-reads
-use Rattle.listing.proofs.put_listing.Reads as put-listing-reads
-use Rattle.listing.proofs.used.Reads as used-reads
 
--- src/lib.rt:128:18
 reported-requires : tie.Need-reported-requires
 reported-requires c κs = c .before .pre .0
 
--- src/lib.rt:129:16
 held-requires : tie.Need-held-requires
 held-requires c κs = search needs
 
--- src/lib.rt:130:16
 used-requires : tie.Need-used-requires
 used-requires c κs = c .before .before .before .pre .0
 
--- src/lib.rt:132:5
 put-listing-requires : tie.Need-put-listing-requires
 put-listing-requires c κs = (report-long _ (c .before .before .before .before .before .before .reported .ensures), counts-by _ (c .before .before .before .before .before .held .ensures) (c .before .before .before .before .used .ensures), size-few _ (c .before .before .before .before .before .before .before .before .pre .0), c .before .before .before .before .before .before .before .before .pre .1)
 
--- src/lib.rt:124:1
 same-length : tie.Need-same-length
 same-length c = wrote-long (c .before .before .put-listing .ensures .0)
 
--- src/lib.rt:124:1
 returns : tie.Need-returns
 returns c = (wrote-as (accepted-world _ _ _ _ (world-few _ (c .before .before .before .before .before .before .before .before .before .before .before .pre .0)) (c .before .before .before .before .before .before .before .before .before .reported .ensures) (c .before .before .before .before .before .before .before .before .held .ensures) (c .before .before .before .before .before .before .before .used .ensures)) (c .before .before .put-listing .ensures .0), c .before .before .put-listing .ensures .1)
 

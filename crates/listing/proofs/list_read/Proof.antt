@@ -6,76 +6,54 @@ use Rattle.rows.proofs.Rows.{broken-tuple-list, broken-line-list}
 use Rattle.listing.proofs.Reading.{list-refused, list-verdict}
 use Rattle.listing.proofs.list_read.Statement.{statement}
 use Rattle.listing.proofs.list_read.Tie as tie
-use Rattle.listing.proofs.list_read.Reads as reads
-use Rattle.listing.proofs.list_read.Lts as lts
-use Rattle.checker.proofs.judged.Reads as judged-reads
-use Rattle.listing.proofs.list_accepted.Reads as list-accepted-reads
-use Rattle.listing.proofs.put_break.Reads as put-break-reads
-use Rattle.listing.proofs.put_refusal.Reads as put-refusal-reads
 
--- src/lib.rt:161:9
 put-refusal-requires : tie.Need-put-refusal-requires
 put-refusal-requires c κs = (c .before .before .before .pre .1 (c .before .if1 .taken), c .before .before .before .pre .2)
 
--- src/lib.rt:161:9
 same-length : tie.Need-same-length
 same-length c = wrote-long (c .before .before .put-refusal .ensures .0)
 
--- src/lib.rt:161:9
 returns : tie.Need-returns
 returns c = (wrote-as (list-refused _ (c .before .before .before .before .if1 .taken)) (c .before .before .put-refusal .ensures .0), c .before .before .put-refusal .ensures .1)
 
--- src/lib.rt:163:11
 judged-requires : tie.Need-judged-requires
 judged-requires c κs = c .before .before .pre .0 (c .if1 .left)
 
--- src/lib.rt:164:47
 enum-told : tie.Need-enum-told
 enum-told c = search needs
 
--- src/lib.rt:164:30
 list-accepted-requires : tie.Need-list-accepted-requires
 list-accepted-requires c κs = (c .before .before .before .before .before .before .pre .0 (c .before .before .before .before .if1 .left), c .before .before .before .before .before .before .pre .2)
 
--- src/lib.rt:165:30
 enum-known-i : tie.Need-enum-known-i
 enum-known-i c = search needs
 
--- src/lib.rt:165:36
 put-break-requires : tie.Need-put-break-requires
 put-break-requires c κs = c .before .before .before .before .before .before .before .pre .2
 
--- src/lib.rt:166:29
 enum-known-q : tie.Need-enum-known-q
 enum-known-q c = search needs
 
--- src/lib.rt:166:35
 put-break-requires-2 : tie.Need-put-break-requires-2
 put-break-requires-2 c κs = c .before .before .before .before .before .before .before .pre .2
 
--- src/lib.rt:154:1
 same-length-2 : tie.Need-same-length-2
 same-length-2 c = wrote-long (c .before .before .list-accepted .ensures .0)
 
--- src/lib.rt:154:1
 returns-2 : tie.Need-returns-2
 unfolding verdictView
 returns-2 c = (wrote-as (list-verdict _ _ (c .before .before .before .before .before .before .before .if1 .left) (sym (ap verdictView (c .before .before .before .before .enum-told .given .1)) ∙ c .before .before .before .before .before .before .judged .ensures)) (c .before .before .list-accepted .ensures .0), c .before .before .list-accepted .ensures .1)
 
--- src/lib.rt:154:1
 same-length-3 : tie.Need-same-length-3
 same-length-3 c = wrote-long (c .before .before .put-break .ensures .0)
 
--- src/lib.rt:154:1
 returns-3 : tie.Need-returns-3
 unfolding verdictView
 returns-3 c = (wrote-as (broken-tuple-list _ _ ∙ list-verdict _ _ (c .before .before .before .before .before .before .before .before .if1 .left) (sym (ap verdictView (c .before .before .before .before .before .i .given .1)) ∙ c .before .before .before .before .before .before .before .judged .ensures)) (c .before .before .put-break .ensures .0), c .before .before .put-break .ensures .1)
 
--- src/lib.rt:154:1
 same-length-4 : tie.Need-same-length-4
 same-length-4 c = wrote-long (c .before .before .put-break2 .ensures .0)
 
--- src/lib.rt:154:1
 returns-4 : tie.Need-returns-4
 unfolding verdictView
 returns-4 c = (wrote-as (broken-line-list _ _ ∙ list-verdict _ _ (c .before .before .before .before .before .before .before .before .if1 .left) (sym (ap verdictView (c .before .before .before .before .before .q .given .1)) ∙ c .before .before .before .before .before .before .before .judged .ensures)) (c .before .before .put-break2 .ensures .0), c .before .before .put-break2 .ensures .1)

@@ -1,22 +1,15 @@
-use borrow.Author.Needs.{needs}
 use native.Mathlib.Omega.{arith}
 use Rattle.writer.proofs.Wrote.{wrote-long}
 use Rattle.listing.proofs.Reading.{broken-fits, fits-in}
 use Rattle.listing.proofs.put_break.Statement.{statement}
 use Rattle.listing.proofs.put_break.Tie as tie
-use Rattle.listing.proofs.put_break.Reads as reads
-use Rattle.listing.proofs.put_break.Lts as lts
-use Rattle.rows.proofs.put_broken.Reads as put-broken-reads
 
--- src/lib.rt:150:5
 put-broken-requires : tie.Need-put-broken-requires
 put-broken-requires c κs = omega (arith, broken-fits (c .before .before .args .kind) (c .before .before .args .number) (omega (arith, c .before .before .fits)), c .before .before .pre)
 
--- src/lib.rt:146:1
 same-length : tie.Need-same-length
 same-length c = wrote-long (c .before .before .put-broken .ensures)
 
--- src/lib.rt:146:1
 returns : tie.Need-returns
 returns c = (c .before .before .put-broken .ensures, fits-in (c .before .before .put-broken .ensures) (broken-fits _ _ (omega (arith, c .before .before .before .before .before .fits))))
 

@@ -5,18 +5,13 @@ use Rattle.listing.proofs.Reading.{homes-world, rights-world}
 use Rattle.checker.proofs.Laws.{rooted-world}
 use Rattle.listing.proofs.used.Statement.{statement}
 use Rattle.listing.proofs.used.Tie as tie
-use Rattle.listing.proofs.used.Reads as reads
-use Rattle.listing.proofs.used.Lts as lts
-use Rattle.usable.proofs.used_counts.Reads as used-counts-reads
 
 homes-long : (c : tie.Start) → length (c .args .t1 .net .homes) ≡ 1024
 homes-long c = search needs
 
--- src/lib.rt:104:5
 used-counts-requires : tie.Need-used-counts-requires
 used-counts-requires c κs = (rooted-world _ (c .before .before .before .before .before .before .before .pre), homes-long (c .before .before .before .before .before .before .before))
 
--- src/lib.rt:100:1
 returns : tie.Need-returns
 returns c = c .used-counts .ensures _ (homes-world _) (rights-world _)
 

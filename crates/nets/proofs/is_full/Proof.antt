@@ -1,29 +1,22 @@
-use borrow.Author.Needs.{needs}
 use Rattle.nets.proofs.is_full.Statement.{statement}
 use Rattle.nets.proofs.is_full.Tie as tie
-use Rattle.nets.proofs.is_full.Reads as reads
-use Rattle.nets.proofs.is_full.Lts as lts
 use borrow.Author.Tests.{ne-eqb}
 use Rattle.text.proofs.Tests.{tests}
 use Rattle.sets.specs.Lists.{_&_}
 use Rattle.nets.specs.Rows.{fullOf}
 
--- src/lib.rt:36:1
 returns : tie.Need-returns
 unfolding fullOf _&_
 returns c = rw (c .match .keys1) (search tests)
 
--- src/lib.rt:36:1
 returns-2 : tie.Need-returns-2
 unfolding fullOf _&_
 returns-2 c = rw (c .match .keys2) (search tests)
 
--- src/lib.rt:36:1
 returns-3 : tie.Need-returns-3
 unfolding fullOf _&_
 returns-3 c = rw (c .match .keys3) (search tests)
 
--- src/lib.rt:36:1
 returns-4 : tie.Need-returns-4
 unfolding fullOf _&_
 returns-4 c = rw (ne-eqb _ 4 (c .match .rest .0 .0 .1), ne-eqb _ 5 (c .match .rest .0 .1), ne-eqb _ 6 (c .match .rest .1))

@@ -1,23 +1,16 @@
-use borrow.Author.Needs.{needs}
 use Rattle.nets.proofs.is_placed.Statement.{statement}
 use Rattle.nets.proofs.is_placed.Tie as tie
-use Rattle.nets.proofs.is_placed.Reads as reads
-use Rattle.nets.proofs.is_placed.Lts as lts
 use Rattle.nets.proofs.Placed.{placed-last, placed-foreign, placed-first, placed-next}
 
--- src/lib.rt:55:9
 returns : tie.Need-returns
 returns c = placed-last _ _ (c .if1 .taken)
 
--- src/lib.rt:58:9
 returns-2 : tie.Need-returns-2
 returns-2 c = placed-foreign _ _ (c .if2 .taken)
 
--- src/lib.rt:61:9
 returns-3 : tie.Need-returns-3
 returns-3 c = placed-first _ _ (c .before .before .before .if1 .left) (c .before .before .if2 .left) (c .if3 .taken)
 
--- src/lib.rt:51:1
 returns-4 : tie.Need-returns-4
 returns-4 c = placed-next _ _ (c .before .before .before .if1 .left) (c .before .before .if2 .left) (c .if3 .left)
 

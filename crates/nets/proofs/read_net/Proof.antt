@@ -8,15 +8,6 @@ use Rattle.nets.proofs.Rows.{room-same}
 use Rattle.nets.proofs.Loop.{Reading, reading-start, reading-more, reading-bad, reading-end}
 use Rattle.nets.proofs.read_net.Statement.{statement}
 use Rattle.nets.proofs.read_net.Tie as tie
-use Rattle.nets.proofs.read_net.Reads as reads
-use Rattle.nets.proofs.read_net.Lts as lts
-use Rattle.nets.proofs.refused_by.Reads as refused-by-reads
-use Rattle.nets.proofs.row_number.Reads as row-number-reads
-use Rattle.nets.proofs.store.Reads as store-reads
-use Rattle.scan.proofs.counted.Reads as counted-reads
-use Rattle.scan.proofs.row_at.Reads as row-at-reads
-use Rattle.scan.proofs.start.Reads as start-reads
-use Rattle.scan.proofs.turned_away.Reads as turned-away-reads
 
 abbrev Inv-loop : tie.InvT-loop
 Inv-loop s homes₀ boxes₀ tuples₀ keys₀ roots₀ lines₀ tally₀ at₀ homes boxes tuples keys roots lines tally at = Reading s homes boxes tuples roots lines keys tally at
@@ -24,24 +15,18 @@ Inv-loop s homes₀ boxes₀ tuples₀ keys₀ roots₀ lines₀ tally₀ at₀ 
 abbrev μ-loop : tie.MeasureT-loop
 μ-loop s homes₀ boxes₀ tuples₀ keys₀ roots₀ lines₀ tally₀ at₀ homes boxes tuples keys roots lines tally at = length s - at
 
--- src/lib.rt:212:9
 start-requires : tie.Need-start-requires Inv-loop μ-loop
 start-requires c κs = search needs
 
--- src/lib.rt:214:5
 loop-holds : tie.Need-loop-holds Inv-loop μ-loop
 loop-holds c = reading-start _ _ (c .start .ensures)
 
--- src/lib.rt:215:13
--- src/lib.rt:216:13
 row-at-requires : tie.Need-row-at-requires Inv-loop μ-loop
 row-at-requires c κs = c .loop-test .taken
 
--- src/lib.rt:217:13
 row-number-requires : tie.Need-row-number-requires Inv-loop μ-loop
 row-number-requires c κs = let R = c .before .before .before .before .before .before .before .loop .inv in (c .before .before .before .before .before .row-at .ensures .1 .1, (R .room, R .long .homesLong, R .long .boxesLong, R .long .keysLong, R .long .rootsLong))
 
--- src/lib.rt:219:13
 store-requires : tie.Need-store-requires Inv-loop μ-loop
 store-requires c κs = let R = c .before .before .before .before .before .before .before .before .before .before .before .before .before .before .loop .inv in (c .before .before .before .before .before .before .before .before .before .before .before .before .row-at .ensures .1 .1, (c .before .before .before .before .before .before .row-number .ensures .1 (c .before .before .before .before .before .if1 .taken), (R .long .homesLong, R .long .boxesLong, R .long .tuplesLong, R .long .rootsLong, R .long .linesLong)))
 
@@ -50,43 +35,33 @@ keep-key-requires c κs =
     let R = c .before .before .before .before .before .before .before .before .before .before .before .before .before .before .before .before .loop .inv in
     (c .before .before .before .before .before .before .before .before .before .before .before .before .before .before .row-at .ensures .1 .1, (c .before .before .before .before .before .before .before .before .row-number .ensures .1 (c .before .before .before .before .before .before .before .if1 .taken), R .long .keysLong))
 
--- src/lib.rt:220:13
 counted-requires : tie.Need-counted-requires Inv-loop μ-loop
 counted-requires c κs = let R = c .before .before .before .before .before .before .before .before .before .before .before .before .before .before .before .before .before .loop .inv in let l = c .before .before .before .before .before .before .before .before .before .before .before .before .before .before .before .before .loop-test .taken in let m = R .room in (omega (arith, R .counted, l, c .before .before .before .before .before .before .before .before .before .before .before .before .before .before .before .before .before .before .before .before .good), (omega (arith, m .tuplesFew), omega (arith, m .rootsFew), omega (arith, m .linesFew)))
 
--- src/lib.rt:221:18
 add-at : tie.Need-add-at Inv-loop μ-loop
 add-at c = let e = row-within _ _ _ (c .before .before .before .before .before .before .before .before .before .before .before .before .before .before .before .before .row-at .ensures .0) (c .before .before .before .before .before .before .before .before .before .before .before .before .before .before .before .before .before .loop-test .taken) in omega (arith, e, c .before .before .before .before .before .before .before .before .before .before .before .before .before .before .before .before .before .before .before .before .before .good)
 
--- src/lib.rt:214:5
 loop-less : tie.Need-loop-less Inv-loop μ-loop
 loop-less c = let l = c .before .before .before .before .before .before .before .before .before .before .before .before .before .before .before .before .before .loop-test .taken in omega (arith, l, c .before .before .before .before .before .before .before .before .before .before .before .before .before .before .before .before .row-at .ensures .0)
 
--- src/lib.rt:214:5
 loop-again : tie.Need-loop-again Inv-loop μ-loop
 loop-again c = let R = c .before .before .before .before .before .before .before .before .before .before .before .before .before .before .before .before .before .before .loop .inv in let l = c .before .before .before .before .before .before .before .before .before .before .before .before .before .before .before .before .before .loop-test .taken in reading-more _ _ _ _ _ _ _ _ _ _ _ _ R l (c .before .before .before .before .before .before .before .before .before .before .before .before .before .before .before .before .row-at .ensures .1 .0) (c .before .before .before .before .before .before .before .before .before .before .row-number .ensures .0) (c .before .before .before .before .before .before .before .before .before .before .before .before .before .before .before .before .row-at .ensures .1 .1) (c .before .before .before .before .before .before .before .before .before .if1 .taken) (omega (arith, c .before .before .before .before .before .before .before .before .before .before .before .before .before .before .before .before .row-at .ensures .0)) (c .before .before .before .before .before .before .before .before .before .before .row-number .ensures .1 (c .before .before .before .before .before .before .before .before .before .if1 .taken)) (c .before .before .before .store .ensures .0) (c .before .before .before .store .ensures .1) (c .before .keep-key .ensures .0) (c .before .keep-key .ensures .1) _ (c .counted .ensures)
 
--- src/lib.rt:223:13
 turned-away-requires : tie.Need-turned-away-requires Inv-loop μ-loop
 turned-away-requires c κs = let R = c .before .before .before .before .before .before .before .before .before .loop .inv in let l = c .before .before .before .before .before .before .before .before .loop-test .taken in omega (arith, R .counted, l, c .before .before .before .before .before .before .before .before .before .before .before .before .good)
 
--- src/lib.rt:214:5
 loop-less-2 : tie.Need-loop-less-2 Inv-loop μ-loop
 loop-less-2 c = let l = c .before .before .before .before .before .before .before .before .before .loop-test .taken in omega (arith, l)
 
--- src/lib.rt:214:5
 loop-again-2 : tie.Need-loop-again-2 Inv-loop μ-loop
 loop-again-2 c = let R = c .before .before .before .before .before .before .before .before .before .before .loop .inv in let l = c .before .before .before .before .before .before .before .before .before .loop-test .taken in reading-bad _ _ _ _ _ _ _ _ _ (c .before .before .before .before .before .before .before .before .row-at .result .end + 1) _ _ R l (c .before .before .before .before .before .before .before .before .row-at .ensures .1 .0) (c .before .before .row-number .ensures .0) (c .before .if1 .left) _ (room-same _ _ (c .turned-away .ensures .1 .1) (R .room)) (c .turned-away .ensures .0) (c .turned-away .ensures .1 .0) _ refl
 
--- src/lib.rt:227:9
 refused-by-requires : tie.Need-refused-by-requires Inv-loop μ-loop
 refused-by-requires c κs = let R = c .before .before .before .loop .inv in (R .room, R .long .linesLong)
 
--- src/lib.rt:228:16
 cast-size : tie.Need-cast-size Inv-loop μ-loop
 cast-size c = let R = c .before .before .before .before .before .loop .inv in omega (arith, R .room .sizeFew)
 
--- src/lib.rt:204:1
 returns : tie.Need-returns Inv-loop μ-loop
 returns c = reading-end _ _ _ _ _ _ _ _ _ (c .before .before .before .before .before .loop .inv) (c .before .before .before .before .loop-test .left) _ (c .before .refused-by .ensures)
 

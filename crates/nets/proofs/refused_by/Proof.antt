@@ -1,24 +1,16 @@
-use borrow.Author.Needs.{needs}
 use Rattle.nets.proofs.refused_by.Statement.{statement}
 use Rattle.nets.proofs.refused_by.Tie as tie
-use Rattle.nets.proofs.refused_by.Reads as reads
-use Rattle.nets.proofs.refused_by.Lts as lts
-use Rattle.nets.proofs.whole_number.Reads as whole-number-reads
 use Rattle.nets.proofs.Loop.{refusal-row, refusal-empty, refusal-whole}
 
--- src/lib.rt:191:9
 returns : tie.Need-returns
 returns c = refusal-row _ _ _ (c .if1 .taken)
 
--- src/lib.rt:194:9
 returns-2 : tie.Need-returns-2
 returns-2 c = refusal-empty _ _ _ (c .before .if1 .left) (c .if2 .taken)
 
--- src/lib.rt:196:9
 whole-number-requires : tie.Need-whole-number-requires
 whole-number-requires c κs = let R = c .before .before .pre .0 in (R .linesFew, R .rootsFew, c .before .before .pre .1)
 
--- src/lib.rt:184:1
 returns-3 : tie.Need-returns-3
 returns-3 c = refusal-whole _ _ _ _ (c .before .before .if1 .left) (c .before .if2 .left) (c .whole-number .ensures)
 

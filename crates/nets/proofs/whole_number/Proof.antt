@@ -1,12 +1,6 @@
 use borrow.Author.Needs.{needs}
 use Rattle.nets.proofs.whole_number.Statement.{statement}
 use Rattle.nets.proofs.whole_number.Tie as tie
-use Rattle.nets.proofs.whole_number.Reads as reads
-use Rattle.nets.proofs.whole_number.Lts as lts
-use Rattle.whole.proofs.in_order.Reads as in-order-reads
-use Rattle.whole.proofs.named_once.Reads as named-once-reads
-use Rattle.whole.proofs.roots_closed.Reads as roots-closed-reads
-use Rattle.whole.proofs.roots_present.Reads as roots-present-reads
 use mathlib.Core.Path.{sym, _∙_}
 use mathlib.Core.Bool.{true, false}
 use Rattle.sets.proofs.Tables.{length-table}
@@ -14,48 +8,38 @@ use Rattle.tables.specs.View.{linesView}
 use Rattle.nets.proofs.Whole.{whole-turn, whole-order, whole-present, whole-once, whole-closed}
 use Rattle.sets.proofs.Lists.{not-no, not-yes}
 
--- src/lib.rt:161:9
 returns : tie.Need-returns
 unfolding linesView
 returns c = whole-turn _ _ _ (length-table _ _) (not-yes _ (c .if1 .taken))
 
--- src/lib.rt:163:9
 in-order-requires : tie.Need-in-order-requires
 in-order-requires c κs = search needs
 
--- src/lib.rt:164:9
 returns-2 : tie.Need-returns-2
 unfolding linesView
 returns-2 c = whole-order _ _ _ (length-table _ _) (not-no _ (c .before .before .if1 .left)) (sym (c .before .in-order .ensures) ∙ not-yes _ (c .if2 .taken))
 
--- src/lib.rt:166:9
 roots-present-requires : tie.Need-roots-present-requires
 roots-present-requires c κs = search needs
 
--- src/lib.rt:167:9
 returns-3 : tie.Need-returns-3
 unfolding linesView
 returns-3 c = whole-present _ _ _ (length-table _ _) (not-no _ (c .before .before .before .before .if1 .left)) (sym (c .before .before .before .in-order .ensures) ∙ not-no _ (c .before .before .if2 .left)) (sym (c .before .roots-present .ensures) ∙ not-yes _ (c .if3 .taken))
 
--- src/lib.rt:169:9
 named-once-requires : tie.Need-named-once-requires
 named-once-requires c κs = search needs
 
--- src/lib.rt:170:9
 returns-4 : tie.Need-returns-4
 unfolding linesView
 returns-4 c = whole-once _ _ _ (length-table _ _) (not-no _ (c .before .before .before .before .before .before .if1 .left)) (sym (c .before .before .before .before .before .in-order .ensures) ∙ not-no _ (c .before .before .before .before .if2 .left)) (sym (c .before .before .before .roots-present .ensures) ∙ not-no _ (c .before .before .if3 .left)) (sym (c .before .named-once .ensures) ∙ not-yes _ (c .if4 .taken))
 
--- src/lib.rt:172:8
 roots-closed-requires : tie.Need-roots-closed-requires
 roots-closed-requires c κs = record { long = c .before .before .before .before .before .before .before .pre .2; few = c .before .before .before .before .before .before .before .pre .1; inOrder = (sym (c .before .before .before .before .before .in-order .ensures) ∙ not-no _ (c .before .before .before .before .if2 .left)); present = (sym (c .before .before .before .roots-present .ensures) ∙ not-no _ (c .before .before .if3 .left)) }
 
--- src/lib.rt:173:9
 returns-5 : tie.Need-returns-5
 unfolding linesView
 returns-5 c = whole-closed _ _ _ (length-table _ _) true (not-no _ (c .before .before .before .before .before .before .before .before .if1 .left)) (sym (c .before .before .before .before .before .before .before .in-order .ensures) ∙ not-no _ (c .before .before .before .before .before .before .if2 .left)) (sym (c .before .before .before .before .before .roots-present .ensures) ∙ not-no _ (c .before .before .before .before .if3 .left)) (sym (c .before .before .before .named-once .ensures) ∙ not-no _ (c .before .before .if4 .left)) (sym (c .before .roots-closed .ensures) ∙ c .if5 .taken)
 
--- src/lib.rt:156:1
 returns-6 : tie.Need-returns-6
 unfolding linesView
 returns-6 c = whole-closed _ _ _ (length-table _ _) false (not-no _ (c .before .before .before .before .before .before .before .before .if1 .left)) (sym (c .before .before .before .before .before .before .before .in-order .ensures) ∙ not-no _ (c .before .before .before .before .before .before .if2 .left)) (sym (c .before .before .before .before .before .roots-present .ensures) ∙ not-no _ (c .before .before .before .before .if3 .left)) (sym (c .before .before .before .named-once .ensures) ∙ not-no _ (c .before .before .if4 .left)) (sym (c .before .roots-closed .ensures) ∙ c .if5 .left)

@@ -16,39 +16,31 @@ Inv-loop keys n k found₀ i₀ found i = (i ≤ n) × (found ≡ any (λ x. eqb
 abbrev μ-loop : tie.MeasureT-loop
 μ-loop keys n k found₀ i₀ found i = n - i
 
--- src/lib.rt:146:5
 loop-holds : tie.Need-loop-holds Inv-loop μ-loop
 unfolding any
 loop-holds c = (omega arith, refl)
 
--- src/lib.rt:147:32
 mul-or-same : tie.Need-mul-or-same Inv-loop μ-loop
 mul-or-same c = search needs
 
--- src/lib.rt:147:32
 element-copy-out-or-same : tie.Need-element-copy-out-or-same Inv-loop μ-loop
 element-copy-out-or-same c = search needs
 
--- src/lib.rt:147:9
 or-same-requires : tie.Need-or-same-requires Inv-loop μ-loop
 or-same-requires c κs = search needs
 
--- src/lib.rt:148:9
 add-i : tie.Need-add-i Inv-loop μ-loop
 add-i c = search needs
 
--- src/lib.rt:146:5
 loop-less : tie.Need-loop-less Inv-loop μ-loop
 loop-less c = omega arith
 
--- src/lib.rt:146:5
 loop-again : tie.Need-loop-again Inv-loop μ-loop
 loop-again c =
     let at = c .before .before .before .loop in
     let ar = c .before .before .before .before .args in
     (omega arith, c .or-same .ensures ∙ ap (λ (b : Bool). either b (eqb (getD (ar .keys .now) (at .i) 0) (ar .k))) (at .inv .1) ∙ any-more (λ x. eqb x (ar .k)) (ar .keys .now) (at .i) (omega arith))
 
--- src/lib.rt:139:1
 returns : tie.Need-returns Inv-loop μ-loop
 returns c =
     let at = c .before .loop in

@@ -6,20 +6,16 @@ use Rattle.repeats.specs.Kept.{keyStep}
 use Rattle.repeats.proofs.key_step.Statement.{statement}
 use Rattle.repeats.proofs.key_step.Tie as tie
 
--- src/lib.rt:89:30
 mul-result : tie.Need-mul-result
 mul-result c = search needs
 
--- src/lib.rt:89:16
 add-result : tie.Need-add-result
 add-result c = search needs
 
--- src/lib.rt:89:9
 returns : tie.Need-returns
 unfolding keyStep
 returns c = rw (lt-ltb _ _ (c .if1 .taken)) (refl, omega arith)
 
--- src/lib.rt:84:1
 returns-2 : tie.Need-returns-2
 unfolding keyStep
 returns-2 c = rw (le-ltb _ _ (c .if1 .left)) (refl, omega arith)

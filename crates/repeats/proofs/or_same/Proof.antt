@@ -1,15 +1,12 @@
-use borrow.Author.Needs.{needs}
 use mathlib.Core.Path.{refl}
 use Rattle.sets.specs.Lists.{either}
 use Rattle.repeats.proofs.or_same.Statement.{statement}
 use Rattle.repeats.proofs.or_same.Tie as tie
 
--- src/lib.rt:133:9
 returns : tie.Need-returns
 unfolding either
 returns c = rw (c .if1 .taken) refl
 
--- src/lib.rt:129:1
 returns-2 : tie.Need-returns-2
 unfolding either
 returns-2 c = rw (c .if1 .left) refl

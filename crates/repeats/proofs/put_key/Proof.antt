@@ -4,24 +4,20 @@ use native.Mathlib.Omega.{arith}
 use borrow.Author.Tests.{ltb-true}
 use Rattle.forms.specs.Forms.{rowData}
 use Rattle.forms.proofs.RowForms.{tuple-some}
-use Rattle.repeats.proofs.Rows.{group-is}
+use Rattle.judge.proofs.Limits.{group-is}
 use Rattle.repeats.proofs.Keys.{keys-own}
 use Rattle.repeats.proofs.put_key.Statement.{statement}
 use Rattle.repeats.proofs.put_key.Tie as tie
 
--- src/lib.rt:126:15
 key-requires : tie.Need-key-requires
 key-requires c κs = search needs
 
--- src/lib.rt:126:5
 mul-keys : tie.Need-mul-keys
 mul-keys c = search needs
 
--- src/lib.rt:126:5
 element-write-keys : tie.Need-element-write-keys
 element-write-keys c = search needs
 
--- src/lib.rt:117:1
 returns : tie.Need-returns
 returns c =
     let s = c .before in

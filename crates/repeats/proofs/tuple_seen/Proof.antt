@@ -4,15 +4,12 @@ use Rattle.repeats.proofs.Repeats.{tuple-seen}
 use Rattle.repeats.proofs.tuple_seen.Statement.{statement}
 use Rattle.repeats.proofs.tuple_seen.Tie as tie
 
--- src/lib.rt:162:22
 key-requires : tie.Need-key-requires
 key-requires c κs = search needs
 
--- src/lib.rt:162:5
 has-key-requires : tie.Need-has-key-requires
 has-key-requires c κs = search needs
 
--- src/lib.rt:154:1
 returns : tie.Need-returns
 returns c =
     let s = c .before .before in

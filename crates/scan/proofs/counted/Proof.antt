@@ -1,68 +1,52 @@
 use borrow.Author.Needs.{needs}
 use Rattle.scan.proofs.counted.Statement.{statement}
 use Rattle.scan.proofs.counted.Tie as tie
-use Rattle.scan.proofs.counted.Reads as reads
-use Rattle.scan.proofs.counted.Lts as lts
-use Rattle.scan.proofs.in_turn.Reads as in-turn-reads
 use Rattle.sets.specs.Lists.{either, _&_}
 use Rattle.forms.specs.Forms.{tupleGroup}
 use Rattle.scan.specs.Tallies.{countedOf, more}
 use Rattle.scan.proofs.Numbers.{counted-rest}
 
--- src/lib.rt:113:15
 cast-own : tie.Need-cast-own
 cast-own c = search needs
 
--- src/lib.rt:116:14
 add-r : tie.Need-add-r
 add-r c = search needs
 
--- src/lib.rt:123:24
 add-r-2 : tie.Need-add-r-2
 add-r-2 c = search needs
 
--- src/lib.rt:127:24
 add-r-3 : tie.Need-add-r-3
 add-r-3 c = search needs
 
--- src/lib.rt:131:23
 add-r-4 : tie.Need-add-r-4
 add-r-4 c = search needs
 
--- src/lib.rt:135:17
 in-turn-requires : tie.Need-in-turn-requires
 in-turn-requires c κs = search needs
 
--- src/lib.rt:137:23
 add-r-5 : tie.Need-add-r-5
 add-r-5 c = search needs
 
--- src/lib.rt:107:1
 returns : tie.Need-returns
 unfolding countedOf more tupleGroup either _&_
 returns c = rw (c .match .keys1)
 
--- src/lib.rt:107:1
 returns-2 : tie.Need-returns-2
 unfolding countedOf more tupleGroup either _&_
 returns-2 c = rw (c .before .match .keys2)
 
--- src/lib.rt:107:1
 returns-3 : tie.Need-returns-3
 unfolding countedOf more tupleGroup either _&_
 returns-3 c = rw (c .before .match .keys3)
 
--- src/lib.rt:107:1
 returns-4 : tie.Need-returns-4
 unfolding countedOf more tupleGroup either _&_
 returns-4 c = rw (c .before .match .keys4)
 
--- src/lib.rt:107:1
 returns-5 : tie.Need-returns-5
 unfolding countedOf more tupleGroup either _&_
 returns-5 c = rw (c .before .before .match .keys5, c .before .in-turn .ensures)
 
--- src/lib.rt:107:1
 returns-6 : tie.Need-returns-6
 returns-6 c = counted-rest (c .before .before .before .args .row) (c .before .before .before .args .tally) (c .match .rest .0 .0 .0 .0 .1) (c .match .rest .0 .0 .0 .1) (c .match .rest .0 .0 .1) (c .match .rest .0 .1) (c .match .rest .1)
 

@@ -1,33 +1,24 @@
 use borrow.Author.Needs.{needs}
 use Rattle.scan.proofs.early.Statement.{statement}
 use Rattle.scan.proofs.early.Tie as tie
-use Rattle.scan.proofs.early.Reads as reads
-use Rattle.scan.proofs.early.Lts as lts
-use Rattle.judge.proofs.in_limits.Reads as in-limits-reads
 use mathlib.Core.Path.{sym, _∙_}
 use Rattle.scan.proofs.Numbers.{early-form, early-full, early-over, early-placed, early-misplaced}
 
--- src/lib.rt:47:9
 returns : tie.Need-returns
 returns c = early-form _ _ _ (c .if1 .taken)
 
--- src/lib.rt:50:9
 returns-2 : tie.Need-returns-2
 returns-2 c = early-full _ _ (c .before .if1 .left) (c .if2 .taken)
 
--- src/lib.rt:52:8
 in-limits-requires : tie.Need-in-limits-requires
 in-limits-requires c κs = search needs
 
--- src/lib.rt:54:13
 returns-3 : tie.Need-returns-3
 returns-3 c = early-placed _ (c .before .before .before .before .if1 .left) (c .before .before .before .if2 .left) (sym (c .before .before .in-limits .ensures) ∙ c .before .if3 .taken) (c .if4 .taken)
 
--- src/lib.rt:56:9
 returns-4 : tie.Need-returns-4
 returns-4 c = early-misplaced _ (c .before .before .before .before .if1 .left) (c .before .before .before .if2 .left) (sym (c .before .before .in-limits .ensures) ∙ c .before .if3 .taken) (c .if4 .left)
 
--- src/lib.rt:41:1
 returns-5 : tie.Need-returns-5
 returns-5 c = early-over _ _ _ (c .before .before .before .if1 .left) (sym (c .before .in-limits .ensures) ∙ c .if3 .left)
 

@@ -1,16 +1,12 @@
 use borrow.Author.Needs.{needs}
 use Rattle.scan.proofs.in_turn.Statement.{statement}
 use Rattle.scan.proofs.in_turn.Tie as tie
-use Rattle.scan.proofs.in_turn.Reads as reads
-use Rattle.scan.proofs.in_turn.Lts as lts
 use Rattle.sets.specs.Lists.{_&_}
 
--- src/lib.rt:101:9
 returns : tie.Need-returns
 unfolding _&_
 returns c = rw (c .if1 .taken) (search needs)
 
--- src/lib.rt:97:1
 returns-2 : tie.Need-returns-2
 unfolding _&_
 returns-2 c = rw (c .if1 .left)

@@ -1,30 +1,21 @@
 use borrow.Author.Needs.{needs}
 use Rattle.scan.proofs.late.Statement.{statement}
 use Rattle.scan.proofs.late.Tie as tie
-use Rattle.scan.proofs.late.Reads as reads
-use Rattle.scan.proofs.late.Lts as lts
-use Rattle.binders.proofs.clashes.Reads as clashes-reads
-use Rattle.judge.proofs.low_sites.Reads as low-sites-reads
 use mathlib.Core.Path.{sym, _∙_}
 use Rattle.scan.proofs.Numbers.{late-absent, late-clash, late-none}
 
--- src/lib.rt:67:8
 low-sites-requires : tie.Need-low-sites-requires
 low-sites-requires c κs = search needs
 
--- src/lib.rt:68:12
 clashes-requires : tie.Need-clashes-requires
 clashes-requires c κs = search needs
 
--- src/lib.rt:69:13
 returns : tie.Need-returns
 returns c = late-clash _ _ (sym (c .before .before .if1 .taken) ∙ c .before .before .before .low-sites .ensures) (sym (c .if2 .taken) ∙ c .before .clashes .ensures)
 
--- src/lib.rt:71:9
 returns-2 : tie.Need-returns-2
 returns-2 c = late-none _ _ (sym (c .before .before .if1 .taken) ∙ c .before .before .before .low-sites .ensures) (sym (c .if2 .left) ∙ c .before .clashes .ensures)
 
--- src/lib.rt:62:1
 returns-3 : tie.Need-returns-3
 returns-3 c = late-absent _ _ (sym (c .if1 .left) ∙ c .before .low-sites .ensures)
 

@@ -4,38 +4,27 @@ use Rattle.scan.proofs.Progress.{row-whole, row-left}
 use Rattle.scan.proofs.Numbers.{no-row-good}
 use Rattle.scan.proofs.row_at.Statement.{statement}
 use Rattle.scan.proofs.row_at.Tie as tie
-use Rattle.scan.proofs.row_at.Reads as reads
-use Rattle.scan.proofs.row_at.Lts as lts
-use Rattle.forms.proofs.row_of.Reads as row-of-reads
-use Rattle.text.proofs.cut.Reads as cut-reads
 
--- src/lib.rt:66:9
 cut-requires : tie.Need-cut-requires
 cut-requires c κs = search needs
 
--- src/lib.rt:70:33
 sub-row-of : tie.Need-sub-row-of
 sub-row-of c = search needs
 
--- src/lib.rt:70:33
 part-row-of-start : tie.Need-part-row-of-start
 part-row-of-start c = search needs
 
--- src/lib.rt:70:33
 part-row-of-end : tie.Need-part-row-of-end
 part-row-of-end c = search needs
 
--- src/lib.rt:70:13
 row-of-requires : tie.Need-row-of-requires
 row-of-requires c κs = search needs
 
--- src/lib.rt:71:9
 returns : tie.Need-returns
 returns c =
     let e = c .before .before .before .before .cut .ensures .0 in
     (e, (row-whole _ _ _ e _ (c .before .before .before .before .before .before .before .pre) (c .before .before .before .if1 .taken) (c .row-of .ensures .0), c .row-of .ensures .1))
 
--- src/lib.rt:59:1
 returns-2 : tie.Need-returns-2
 returns-2 c =
     let e = c .before .cut .ensures .0 in

@@ -2,10 +2,7 @@ use borrow.Author.Needs.{needs}
 use Rattle.scan.specs.Tallies.{startOf}
 use Rattle.scan.proofs.start.Statement.{statement}
 use Rattle.scan.proofs.start.Tie as tie
-use Rattle.scan.proofs.start.Reads as reads
-use Rattle.scan.proofs.start.Lts as lts
 
--- src/lib.rt:36:1
 returns : tie.Need-returns
 unfolding startOf
 returns c = search needs

@@ -1,5 +1,5 @@
-use Rattle.starts.proofs.Laws.{nil-test}
 use borrow.Author.Needs.{needs}
+use Rattle.tables.proofs.Lines.{nil-test}
 use Rattle.starts.proofs.is_nil.Statement.{statement}
 use Rattle.starts.proofs.is_nil.Tie as tie
 

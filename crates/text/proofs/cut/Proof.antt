@@ -6,11 +6,6 @@ use borrow.Author.Needs.{needs}
 use Rattle.text.proofs.Slices.{Slicing, comma-in, slicing-first, slicing-next, slicing-end, slicing-done, mark-in, mark-next}
 use Rattle.text.proofs.cut.Statement.{statement}
 use Rattle.text.proofs.cut.Tie as tie
-use Rattle.text.proofs.cut.Reads as reads
-use Rattle.text.proofs.cut.Lts as lts
-use Rattle.text.proofs.field_end.Reads as field-end-reads
-use Rattle.text.proofs.goes_on.Reads as goes-on-reads
-use Rattle.text.proofs.keep.Reads as keep-reads
 
 abbrev Inv-loop : tie.InvT-loop
 Inv-loop s at edges₀ n₀ end₀ edges n end = Slicing s at edges n end
@@ -18,75 +13,59 @@ Inv-loop s at edges₀ n₀ end₀ edges n end = Slicing s at edges n end
 abbrev μ-loop : tie.MeasureT-loop
 μ-loop s at edges₀ n₀ end₀ edges n end = length s - end
 
--- src/lib.rt:69:9
 field-end-requires : tie.Need-field-end-requires Inv-loop μ-loop
 field-end-requires c κs = search needs
 
--- src/lib.rt:70:5
 keep-requires : tie.Need-keep-requires Inv-loop μ-loop
 keep-requires c κs = search needs
 
--- src/lib.rt:71:20
 add-keep : tie.Need-add-keep Inv-loop μ-loop
 add-keep c = omega (arith, mark-in (c .before .before .before .before .before .pre .1) (c .before .before .before .field-end .ensures))
 
--- src/lib.rt:71:20
 sub-keep : tie.Need-sub-keep Inv-loop μ-loop
 sub-keep c = search needs
 
--- src/lib.rt:71:5
 keep-requires-2 : tie.Need-keep-requires-2 Inv-loop μ-loop
 keep-requires-2 c κs = ap length (c .before .keep .ensures) ∙ length-set (c .before .before .before .before .before .args .edges .now) 0 0 ∙ c .before .before .before .before .before .pre .0
 
--- src/lib.rt:72:5
 loop-holds : tie.Need-loop-holds Inv-loop μ-loop
 loop-holds c =
     let t = c .before .before .before .before .before .before in
     slicing-first (t .pre .1) (t .args .edges .now) (c .before .before .before .before .field-end .result) (t .pre .0) (c .before .before .keep .ensures) (c .before .before .before .before .field-end .ensures) (c .keep2 .ensures)
 
--- src/lib.rt:72:11
 goes-on-requires : tie.Need-goes-on-requires Inv-loop μ-loop
 goes-on-requires c κs = search needs
 
--- src/lib.rt:73:28
 add-field-end : tie.Need-add-field-end Inv-loop μ-loop
 add-field-end c = search needs
 
--- src/lib.rt:73:9
 field-end-requires-2 : tie.Need-field-end-requires-2 Inv-loop μ-loop
 field-end-requires-2 c κs = search needs
 
--- src/lib.rt:74:9
 add-n : tie.Need-add-n Inv-loop μ-loop
 add-n c = search needs
 
--- src/lib.rt:75:24
 add-keep-2 : tie.Need-add-keep-2 Inv-loop μ-loop
 add-keep-2 c =
     let l = comma-in _ _ (sym (c .before .before .before .goes-on .ensures) ∙ c .before .before .if1 .taken) in
     omega (arith, mark-next (l .0) (c .before .field-end2 .ensures))
 
--- src/lib.rt:75:24
 sub-keep-2 : tie.Need-sub-keep-2 Inv-loop μ-loop
 sub-keep-2 c = search needs
 
--- src/lib.rt:75:9
 keep-requires-3 : tie.Need-keep-requires-3 Inv-loop μ-loop
 keep-requires-3 c κs = search needs
 
--- src/lib.rt:72:5
 loop-less : tie.Need-loop-less Inv-loop μ-loop
 loop-less c =
     let l = comma-in _ _ (sym (c .before .before .before .before .goes-on .ensures) ∙ c .before .before .before .if1 .taken) in
     let M = c .before .before .field-end2 .ensures in
     omega (arith, l .0, mark-next (l .0) M)
 
--- src/lib.rt:72:5
 loop-again : tie.Need-loop-again Inv-loop μ-loop
 loop-again c =
     slicing-next (c .before .before .before .before .before .before .before .before .before .before .before .before .pre .1) (c .before .before .field-end2 .result) (c .before .before .before .before .before .loop .inv) (sym (c .before .before .before .before .goes-on .ensures) ∙ c .before .before .before .if1 .taken) (c .before .before .field-end2 .ensures) (c .keep3 .ensures)
 
--- src/lib.rt:62:1
 returns : tie.Need-returns Inv-loop μ-loop
 returns c =
     let h = c .before .before .before .before .before .before .before .before .before .pre .1 in

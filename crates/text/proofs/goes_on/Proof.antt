@@ -5,19 +5,14 @@ use Rattle.sets.specs.Lists.{_&_}
 use Rattle.text.specs.Pieces.{commaAt}
 use Rattle.text.proofs.goes_on.Statement.{statement}
 use Rattle.text.proofs.goes_on.Tie as tie
-use Rattle.text.proofs.goes_on.Reads as reads
-use Rattle.text.proofs.goes_on.Lts as lts
 
--- src/lib.rt:40:16
 shared-slice-read-result : tie.Need-shared-slice-read-result
 shared-slice-read-result c = search needs
 
--- src/lib.rt:40:9
 returns : tie.Need-returns
 unfolding commaAt _&_
 returns c = rw (lt-ltb _ _ (c .before .if1 .taken)) (search needs)
 
--- src/lib.rt:36:1
 returns-2 : tie.Need-returns-2
 unfolding commaAt _&_
 returns-2 c = rw (le-ltb _ _ (c .if1 .left)) refl

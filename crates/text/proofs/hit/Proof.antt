@@ -6,24 +6,18 @@ use Rattle.sets.specs.Lists.{_&_}
 use Rattle.text.specs.Fields.{hitAt}
 use Rattle.text.proofs.hit.Statement.{statement}
 use Rattle.text.proofs.hit.Tie as tie
-use Rattle.text.proofs.hit.Reads as reads
-use Rattle.text.proofs.hit.Lts as lts
 
--- src/lib.rt:194:12
 shared-slice-read-if2 : tie.Need-shared-slice-read-if2
 shared-slice-read-if2 c = search needs
 
--- src/lib.rt:195:13
 returns : tie.Need-returns
 unfolding hitAt _&_
 returns c = rw (lt-ltb _ _ (c .before .before .if1 .taken), eq-eqb _ _ (c .if2 .taken)) (refl, omega arith)
 
--- src/lib.rt:190:1
 returns-2 : tie.Need-returns-2
 unfolding hitAt _&_
 returns-2 c = rw (lt-ltb _ _ (c .before .before .if1 .taken), ne-eqb _ _ (c .if2 .left)) (refl, omega arith)
 
--- src/lib.rt:190:1
 returns-3 : tie.Need-returns-3
 unfolding hitAt _&_
 returns-3 c = rw (le-ltb _ _ (c .if1 .left)) (refl, omega arith)

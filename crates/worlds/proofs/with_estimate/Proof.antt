@@ -1,28 +1,20 @@
 use borrow.Author.Needs.{needs}
 use Rattle.worlds.proofs.with_estimate.Statement.{statement}
 use Rattle.worlds.proofs.with_estimate.Tie as tie
-use Rattle.worlds.proofs.with_estimate.Reads as reads
-use Rattle.worlds.proofs.with_estimate.Lts as lts
-use Rattle.estimates.proofs.read_estimate.Reads as read-estimate-reads
-use Rattle.worlds.proofs.no_estimate.Reads as no-estimate-reads
 use mathlib.Core.Path.{refl}
 use Rattle.worlds.specs.World.{worldView, worldAnswer}
 use Rattle.worlds.proofs.World.{net-refused, net-read}
 
--- src/lib.rt:39:13
 no-estimate-requires : tie.Need-no-estimate-requires
 no-estimate-requires c κs = search needs
 
--- src/lib.rt:40:9
 returns : tie.Need-returns
 unfolding worldView worldAnswer
 returns c = net-refused _ _ _ _ (c .before .if1 .taken) refl refl _
 
--- src/lib.rt:48:9
 read-estimate-requires : tie.Need-read-estimate-requires
 read-estimate-requires c κs = search needs
 
--- src/lib.rt:32:1
 returns-2 : tie.Need-returns-2
 unfolding worldView worldAnswer
 returns-2 c = net-read _ _ (c .before .read-estimate .result) (c .before .before .if1 .left) (c .before .read-estimate .ensures)

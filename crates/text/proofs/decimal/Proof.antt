@@ -3,8 +3,8 @@
 use Prim.Native.Nat.{_-_}
 use lib.ListN.{length}
 use borrow.Author.Needs.{needs}
-use Rattle.commands.proofs.decimal.Statement.{statement}
-use Rattle.commands.proofs.decimal.Tie as tie
+use Rattle.text.proofs.decimal.Statement.{statement}
+use Rattle.text.proofs.decimal.Tie as tie
 
 abbrev Inv-loop : tie.InvT-loop
 Inv-loop f n₀ i₀ n i = Unit {0}
