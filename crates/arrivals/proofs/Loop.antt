@@ -17,9 +17,9 @@ use Rattle.forms.specs.Forms.{rowData, rowView, rowGood}
 use Rattle.scan.specs.declared.Tally.{Tally}
 use Rattle.scan.specs.Progress.{rowsLeft, Progress}
 use Rattle.scan.specs.Numbers.{judgedBy}
-use Rattle.scan.specs.Tallies.{countedOf}
+use Rattle.scan.specs.Tallies.{countedOf, startOf}
 use Rattle.scan.proofs.Progress.{progress-none, progress-more, progress-bad, progress-end, progress-refused, going-on, row-within as within}
-use Rattle.arrivals.specs.Rows.{ArrivalTally, Passed, startOf}
+use Rattle.arrivals.specs.Rows.{ArrivalTally, Passed}
 use Rattle.arrivals.specs.Read.{RowsRead, taken, refusal}
 use Rattle.arrivals.proofs.Rows.{of-group, room, withLine, counted-line, tally-more}
 

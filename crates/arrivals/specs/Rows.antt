@@ -32,7 +32,3 @@ pub record Passed (d : ℕ) (row : RowData) (t : Tally) : Type 0 where
   pub low : inLimits (rowData row) ≡ true
   pub room : fullOf d (row .group) t ≡ false
   pub placed : eqb (row .group) groupQ ≡ true
-
--- the tally of no rows
-unfoldable pub startOf : ℕ → Tally
-startOf n = record { size = n; tuples = 0; roots = 0; lines = 0; last = 0; turn = true; rows = 0; number = 0 }

@@ -1,17 +1,17 @@
 //! An arrival, read from its bytes: the Q rows that a bring takes.
 ghost use mathlib.Core.Path.{_≡_};
 ghost use mathlib.Core.Bool.{true};
-ghost use mathlib.Core.List.{List};
+ghost use mathlib.Core.List.{List, [], _∷_};
 ghost use Prim.Native.Nat.{ℕ, _≤_, min};
-ghost use lib.Dec.{eqb};
 ghost use lib.ListN.{length};
-ghost use Rattle.klaim.specs.Rows.{Row, groupQ};
+ghost use Rattle.klaim.specs.Rows.{Row};
 ghost use Rattle.klaim.specs.Reader.{anArrival, judge, readArrival};
 ghost use Rattle.tables.specs.View.{linesView};
 ghost use Rattle.forms.specs.Forms.{rowView, rowData, rowGood};
 ghost use Rattle.scan.specs.Numbers.{judgedBy};
-ghost use Rattle.arrivals.specs.Rows.{ArrivalTally, Passed, fullOf, startOf};
-ghost use Rattle.arrivals.specs.Read.{arrivalAnswer, RowsRead, turnOf, wholeNumber};
+ghost use Rattle.whole.specs.Number.{wholeNumber};
+ghost use Rattle.arrivals.specs.Rows.{ArrivalTally, Passed, fullOf};
+ghost use Rattle.arrivals.specs.Read.{arrivalAnswer, RowsRead};
 use forms::RowData;
 use scan::Tally;
 use tables::LINES;
@@ -61,29 +61,13 @@ fn row_number(row: RowData, tally: Tally, d: usize) -> u8
     scan::late(row, tally.size)
 }
 
-// The tally of no rows.
-fn start(n: u8) -> Tally
-    ensures { λ r. ⌜ r ≡ startOf n ⌝ }
-{
-    Tally {
-        size: n as u16,
-        tuples: 0,
-        roots: 0,
-        lines: 0,
-        last: 0,
-        turn: true,
-        rows: 0,
-        number: 0,
-    }
-}
-
 // The rows of an arrival.
 fn read_rows(n: u8, d: usize, s: &[u8]) -> ArrivalRows
     requires { ⌜ d ≤ 256 ⌝ }
     ensures { λ r. ⌜ RowsRead n d (now (s .entry)) r ⌝ }
 {
     let mut lines = [0u8; 2560];
-    let mut tally = start(n);
+    let mut tally = scan::start(n);
     let mut at = 0;
     while at < s.len() {
         let next = scan::row_at(s, at);
@@ -112,35 +96,13 @@ fn read_rows(n: u8, d: usize, s: &[u8]) -> ArrivalRows
     }
 }
 
-// Whether numbers are in turn, children in order, and line 0 is there.
-fn in_turn(lines: &[u8; 2560], count: usize, turn: bool) -> bool
-    requires { ⌜ count ≤ 256 ⌝ }
-    ensures { λ r. ⌜ r ≡ turnOf turn (linesView count (now (lines .entry))) ⌝ }
-{
-    if turn {
-        if 0 < count {
-            return whole::in_order(lines, count);
-        }
-    }
-    false
-}
-
-// The number by which the text as a whole is refused, or 0. Line 0 is the root.
+// The number by which the text as a whole is refused, or 0. Line 0 is the root, as a root of zeros says.
 fn whole_number(lines: &[u8; 2560], count: usize, turn: bool) -> u8
     requires { ⌜ (count ≤ 256) × (length (now lines) ≡ 2560) ⌝ }
-    ensures { λ r. ⌜ r ≡ wholeNumber turn (linesView count (now (lines .entry))) ⌝ }
+    ensures { λ r. ⌜ r ≡ wholeNumber turn (linesView count (now (lines .entry))) (0 ∷ []) ⌝ }
 {
-    if in_turn(lines, count, turn) {
-        let roots = whole::named_first();
-        if whole::named_once_from(lines, count, roots) {
-            if whole::closed(lines, count, 0) {
-                return 0;
-            }
-            return 8;
-        }
-        return 6;
-    }
-    5
+    let roots = [0u8; 128];
+    whole::whole_number(turn, lines, count, &roots, 1)
 }
 
 // The same, with room for a line or none.

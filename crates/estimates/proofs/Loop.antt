@@ -22,11 +22,11 @@ use Rattle.forms.specs.Forms.{rowData, rowView, rowGood, tupleGroup}
 use Rattle.scan.specs.declared.Tally.{Tally}
 use Rattle.scan.specs.Progress.{rowsLeft, Progress}
 use Rattle.scan.specs.Numbers.{judgedBy}
-use Rattle.scan.specs.Tallies.{countedOf}
+use Rattle.scan.specs.Tallies.{countedOf, startOf}
 use Rattle.scan.specs.Tallies as Tallies
 use Rattle.scan.proofs.Progress.{progress-none, progress-more, progress-bad, progress-end, progress-refused, going-on, gather-none, row-within as within}
 use Rattle.repeats.specs.Kept.{KeysAre}
-use Rattle.estimates.specs.Rows.{EstimateTables, EstimateTally, Passed, fullOf, placedOf, startOf}
+use Rattle.estimates.specs.Rows.{EstimateTables, EstimateTally, Passed, fullOf, placedOf}
 use Rattle.estimates.specs.Read.{estimateAnswer}
 use Rattle.estimates.proofs.Rows.{tally-more, tuples-few}
 

@@ -10,7 +10,7 @@ ghost use Rattle.forms.specs.Forms.{rowView, rowData, rowGood};
 ghost use Rattle.scan.specs.Numbers.{judgedBy};
 ghost use Rattle.scan.specs.Tallies.{countedOf};
 ghost use Rattle.repeats.specs.Kept.{KeysAre};
-ghost use Rattle.estimates.specs.Rows.{EstimateTables, EstimateTally, Passed, fullOf, placedOf, startOf};
+ghost use Rattle.estimates.specs.Rows.{EstimateTables, EstimateTally, Passed, fullOf, placedOf};
 ghost use Rattle.estimates.specs.Read.{estimateAnswer};
 use forms::RowData;
 use scan::Tally;
@@ -138,22 +138,6 @@ fn keep_key(row: RowData, tally: Tally, keys: &mut [u32; 256])
     repeats::put_key(keys, tally.tuples, row);
 }
 
-// The tally of no rows.
-fn start(n: u8) -> Tally
-    ensures { λ r. ⌜ r ≡ startOf n ⌝ }
-{
-    Tally {
-        size: n as u16,
-        tuples: 0,
-        roots: 0,
-        lines: 0,
-        last: 0,
-        turn: true,
-        rows: 0,
-        number: 0,
-    }
-}
-
 // An estimate from its bytes, given the n of the net.
 pub fn read_estimate(n: u8, s: &[u8]) -> EstimateRead
     ensures { λ r. ⌜ estimateAnswer r ≡ readEstimate n (now (s .entry)) ⌝ }
@@ -162,7 +146,7 @@ pub fn read_estimate(n: u8, s: &[u8]) -> EstimateRead
     let mut stand = [0u8; 1536];
     let mut keys = [0u32; 256];
     let mut hold = [0u8; 1024];
-    let mut tally = start(n);
+    let mut tally = scan::start(n);
     let mut at = 0;
     while at < s.len() {
         let next = scan::row_at(s, at);

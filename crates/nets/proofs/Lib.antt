@@ -1,4 +1,3 @@
 pub mod Placed
 pub mod Rows
-pub mod Whole
 pub mod Loop

@@ -1,20 +1,20 @@
 -- A loop over the rows of a net.
 -- Assumes nothing.
 use mathlib.Core.Path.{_≡_, refl, sym, ap, ap₂, subst, _∙_}
-use mathlib.Core.Bool.{Bool, true, false, not, cond}
+use mathlib.Core.Bool.{Bool, true, false, cond}
 use mathlib.Core.List.{List, [], _∷_, _++_, map}
 use Prim.Native.Nat.{ℕ, _+_, _<_, _≤_}
 use native.Mathlib.Omega.{arith}
 use native.Mathlib.Decide.{ℕ-discrete}
-use lib.Dec.{eqb, ltb}
+use lib.Dec.{eqb}
 use lib.ListN.{length, replicate, length-replicate}
 use borrow.Author.Tests.{eq-eqb, ne-eqb}
-use Rattle.sets.specs.Lists.{done, _&_, all, keep, empty, table, tableFrom, below, same}
+use Rattle.sets.specs.Lists.{done, keep, empty, table, tableFrom, below, same}
 use Rattle.sets.proofs.Tables.{length-table}
-use Rattle.klaim.specs.Process.{Line, ordered}
+use Rattle.klaim.specs.Process.{Line}
 use Rattle.klaim.specs.Rows.{Row, groupR, groupD, groupT}
 use Rattle.klaim.specs.Net as Spec
-use Rattle.klaim.specs.Reader.{aNet, Answer, refused, gives, andThen, ofGroup, judge, readRows, sizeOf, inTurn, namedOnce, rootsClosed, whole, numbersOf, linesOf, netOf, wholeNet, readNet}
+use Rattle.klaim.specs.Reader.{aNet, Answer, refused, gives, andThen, ofGroup, judge, readRows, sizeOf, whole, numbersOf, linesOf, netOf, wholeNet, readNet}
 use Rattle.klaim.proofs.Above.{last-none}
 use Rattle.tables.specs.View.{rowsView, rootsView, linesView, netView}
 use Rattle.tables.specs.declared.Net.{Net}
@@ -30,7 +30,9 @@ use Rattle.repeats.proofs.Rows.{as-kept}
 use Rattle.repeats.specs.Kept.{KeysAre}
 use Rattle.nets.specs.declared.Refusal.{Refusal}
 use Rattle.nets.specs.Rows.{NetTables, NetTally, Room, Passed}
-use Rattle.nets.specs.Read.{netAnswer, wholeNumber, refusalOf}
+use Rattle.whole.specs.Number.{wholeNumber}
+use Rattle.whole.proofs.Number.{whole-is}
+use Rattle.nets.specs.Read.{netAnswer, refusalOf}
 use Rattle.nets.proofs.Rows.{tally-more, room-more, empty-is}
 
 -- what is kept of the rows above
@@ -129,17 +131,6 @@ module _ (s homes boxes tuples roots lines keys : List ℕ) (t : Tally) (at next
 tables-say : (size : ℕ) {above : List Row} {homes boxes tuples roots lines : List ℕ} {nt nr nl : ℕ} → sizeOf above ≡ size → NetTables above homes boxes tuples nt roots nr lines nl → netView (record { size = size; homes = homes; boxes = boxes; tuples = tuples; ntuples = nt; roots = roots; nroots = nr; lines = lines; nlines = nl }) ≡ netOf above
 unfolding netView netOf
 tables-say size e T = rw (sym e, T .homesIs, T .boxesIs, T .tuplesIs, T .rootsIs, T .linesIs)
-
--- 5, 6, 8 over the whole net
-whole-is : {A : Type 0} (turn : Bool) (numbers : List ℕ) (ls : List Line) (roots : List ℕ) (x : A) → same numbers (below (length ls)) ≡ turn → whole numbers ls roots x ≡ cond (eqb (wholeNumber turn ls roots) 0) (gives x) (refused (wholeNumber turn ls roots) 0)
-unfolding whole inTurn wholeNumber
-whole-is turn numbers ls roots x e = ap (λ (t : Bool). cond (not (t & ordered ls & all (λ q. ltb q (length ls)) roots)) (refused 5 0) (cond (not (namedOnce ls roots)) (refused 6 0) (cond (not (rootsClosed ls roots)) (refused 8 0) (gives x)))) e ∙ go (turn & ordered ls & all (λ q. ltb q (length ls)) roots) (namedOnce ls roots) (rootsClosed ls roots)
-  where
-    go : (a b c : Bool) → cond (not a) (refused 5 0) (cond (not b) (refused 6 0) (cond (not c) (refused 8 0) (gives x))) ≡ cond (eqb (cond (not a) 5 (cond (not b) 6 (cond (not c) 8 0))) 0) (gives x) (refused (cond (not a) 5 (cond (not b) 6 (cond (not c) 8 0))) 0)
-    go false b c = refl
-    go true false c = refl
-    go true true false = refl
-    go true true true = refl
 
 -- what refuses the net, one by one
 module _ (t : Tally) (ls : List Line) (roots : List ℕ) where

@@ -1,14 +1,13 @@
 -- What the reading of a net comes to.
 -- Assumes nothing.
-use mathlib.Core.Bool.{Bool, not, cond}
+use mathlib.Core.Bool.{cond}
 use mathlib.Core.List.{List}
 use Prim.Native.Nat.{ℕ}
-use lib.Dec.{eqb, ltb}
-use lib.ListN.{length}
-use Rattle.sets.specs.Lists.{_&_, all}
-use Rattle.klaim.specs.Process.{Line, ordered}
+use lib.Dec.{eqb}
+use Rattle.whole.specs.Number.{wholeNumber}
+use Rattle.klaim.specs.Process.{Line}
 use Rattle.klaim.specs.Net as Spec
-use Rattle.klaim.specs.Reader.{Answer, refused, gives, namedOnce, rootsClosed}
+use Rattle.klaim.specs.Reader.{Answer, refused, gives}
 use Rattle.tables.specs.View.{netView}
 use Rattle.scan.specs.declared.Tally.{Tally}
 use Rattle.nets.specs.declared.Refusal.{Refusal}
@@ -17,13 +16,6 @@ use Rattle.nets.specs.declared.NetRead.{NetRead}
 -- the net, or the number and the row of the refusal
 unfoldable pub netAnswer : NetRead → Answer Spec.Net
 netAnswer r = cond (eqb (r .number) 0) (gives (netView (r .net))) (refused (r .number) (r .row))
-
--- 5, 6, 8, or 0
-unfoldable pub wholeNumber : Bool → List Line → List ℕ → ℕ
-wholeNumber turn ls roots =
-    cond (not (turn & ordered ls & all (λ q. ltb q (length ls)) roots)) 5
-    (cond (not (namedOnce ls roots)) 6
-    (cond (not (rootsClosed ls roots)) 8 0))
 
 -- the number and the row of a refusal, or 0: of a row, of an empty net, of the whole net
 unfoldable pub refusalOf : Tally → List Line → List ℕ → Refusal

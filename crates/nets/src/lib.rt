@@ -12,7 +12,7 @@ ghost use Rattle.scan.specs.Tallies.{countedOf};
 ghost use Rattle.tables.specs.View.{linesView, rootsView};
 ghost use Rattle.repeats.specs.Kept.{KeysAre};
 ghost use Rattle.nets.specs.Rows.{NetTables, NetTally, Room, fullOf, placedOf, Passed};
-ghost use Rattle.nets.specs.Read.{netAnswer, wholeNumber, refusalOf};
+ghost use Rattle.nets.specs.Read.{netAnswer, refusalOf};
 use forms::RowData;
 use scan::Tally;
 use tables::LINES;
@@ -167,29 +167,6 @@ fn keep_key(row: RowData, tally: Tally, keys: &mut [u32; 256])
     repeats::put_key(keys, tally.tuples, row);
 }
 
-// 5, 6, 8 or 0, over the whole net: its lines in turn and in order with the roots among them, each named once, the roots closed.
-fn whole_number(turn: bool, lines: &[u8; 2560], n: usize, roots: &[u8; 128], m: usize) -> u8
-    requires { ⌜ (n ≤ 256) × (m ≤ 64) × (length (now lines) ≡ 2560) ⌝ }
-    ensures { λ r. ⌜ r ≡ wholeNumber turn (linesView n (now (lines .entry))) (map (λ x. x .line) (rootsView m (now (roots .entry)))) ⌝ }
-{
-    if !turn {
-        return 5;
-    }
-    if !whole::in_order(lines, n) {
-        return 5;
-    }
-    if !whole::roots_present(roots, m, n) {
-        return 5;
-    }
-    if !whole::named_once(lines, n, roots, m) {
-        return 6;
-    }
-    if whole::roots_closed(lines, n, roots, m) {
-        return 0;
-    }
-    8
-}
-
 // The number of a refusal, 0 if there is none, and its row.
 pub struct Refusal {
     pub number: u8,
@@ -209,7 +186,7 @@ fn refused_by(tally: Tally, lines: &[u8; 2560], roots: &[u8; 128]) -> Refusal
     if rows == 0 {
         return Refusal { number: 3, row: 1 };
     }
-    let whole = whole_number(tally.turn, lines, tally.lines, roots, tally.roots);
+    let whole = whole::whole_number(tally.turn, lines, tally.lines, roots, tally.roots);
     Refusal {
         number: whole,
         row: 0,

@@ -34,11 +34,11 @@ pub struct Tally {
 }
 
 // The tally of no rows, n given.
-pub fn start(n: u16) -> Tally
+pub fn start(n: u8) -> Tally
     ensures { λ r. ⌜ r ≡ startOf n ⌝ }
 {
     Tally {
-        size: n,
+        size: n as u16,
         tuples: 0,
         roots: 0,
         lines: 0,

@@ -51,10 +51,6 @@ pub none-named : Counted [] (replicate 256 0)
 unfolding count keep
 none-named = record { long = refl; times = λ k l. getD-replicate 256 k 0 0 l }
 
-pub first-named : {r : List ℕ} → Counted ([] ∪ (0 ∷ [])) r → Counted (0 ∷ []) r
-unfolding _∪_
-first-named C = C
-
 -- the children of a line
 pair : (a b : ℕ) → (a ∷ []) ∪ (b ∷ []) ≡ a ∷ b ∷ []
 unfolding _∪_

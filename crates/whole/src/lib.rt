@@ -14,6 +14,7 @@ ghost use Rattle.whole.specs.Free.{maskOf, varIn, freeFields, freeForks,
 ghost use Rattle.whole.specs.Children.{listOf};
 ghost use Rattle.whole.specs.RootsIn.{RootsIn};
 ghost use Rattle.whole.specs.Counted.{Counted};
+ghost use Rattle.whole.specs.Number.{wholeNumber};
 use klaim::Loc;
 use tables::Action;
 
@@ -82,7 +83,7 @@ fn children_fit(cs: Children, q: usize, n: usize) -> bool
 }
 
 // Whether each child is greater than its parent and one of the n lines.
-pub fn in_order(lines: &[u8; 2560], n: usize) -> bool
+fn in_order(lines: &[u8; 2560], n: usize) -> bool
     requires { ⌜ n ≤ 256 ⌝ }
     ensures { λ r. ⌜ r ≡ ordered (linesView n (now (lines .entry))) ⌝ }
 {
@@ -98,7 +99,7 @@ pub fn in_order(lines: &[u8; 2560], n: usize) -> bool
 }
 
 // Whether the lines of the m roots are among the n lines.
-pub fn roots_present(roots: &[u8; 128], m: usize, n: usize) -> bool
+fn roots_present(roots: &[u8; 128], m: usize, n: usize) -> bool
     requires { ⌜ m ≤ 64 ⌝ }
     ensures { λ r. ⌜ r ≡ all (λ q. ltb q n) (map (λ x. x .line) (rootsView m (now (roots .entry)))) ⌝ }
 {
@@ -173,18 +174,8 @@ fn all_one(counts: &[u8; 256], n: usize) -> bool
     true
 }
 
-// Whether each of the n lines is named once, by a parent or as a root; `roots` has how often each is named as a root.
-pub fn named_once_from(lines: &[u8; 2560], n: usize, roots: [u8; 256]) -> bool
-    requires { ⌜ n ≤ 256 ⌝ }
-    ensures { λ r. ⌜ ((xs : List ℕ) → Counted xs roots → r ≡ namedOnce (linesView n (now (lines .entry))) xs) ⌝ }
-{
-    let mut counts = roots;
-    named_lines(&mut counts, lines, n);
-    all_one(&counts, n)
-}
-
 // How often each line is named by the m roots.
-pub fn named_roots(roots: &[u8; 128], m: usize) -> [u8; 256]
+fn named_roots(roots: &[u8; 128], m: usize) -> [u8; 256]
     requires { ⌜ m ≤ 64 ⌝ }
     ensures { λ r. ⌜ Counted (map (λ x. x .line) (rootsView m (now (roots .entry)))) r ⌝ }
 {
@@ -197,22 +188,14 @@ pub fn named_roots(roots: &[u8; 128], m: usize) -> [u8; 256]
     counts
 }
 
-// Line 0 named alone: the root of an arrival.
-pub fn named_first() -> [u8; 256]
-    ensures { λ r. ⌜ Counted (0 ∷ []) r ⌝ }
-{
-    let mut counts = [0u8; 256];
-    named(&mut counts, 0);
-    counts
-}
-
 // Whether each of the n lines is named once, by a parent or by one of the m roots.
-pub fn named_once(lines: &[u8; 2560], n: usize, roots: &[u8; 128], m: usize) -> bool
+fn named_once(lines: &[u8; 2560], n: usize, roots: &[u8; 128], m: usize) -> bool
     requires { ⌜ (n ≤ 256) × (m ≤ 64) ⌝ }
     ensures { λ r. ⌜ r ≡ namedOnce (linesView n (now (lines .entry))) (map (λ x. x .line) (rootsView m (now (roots .entry)))) ⌝ }
 {
-    let counts = named_roots(roots, m);
-    named_once_from(lines, n, counts)
+    let mut counts = named_roots(roots, m);
+    named_lines(&mut counts, lines, n);
+    all_one(&counts, n)
 }
 
 // The sorts of a field's byte that name a variable: u, and `!u`.
@@ -318,7 +301,7 @@ fn names_of(action: Action) -> Names
 }
 
 // The free variables of the process of line q. Children have greater numbers: 256 less q falls.
-pub fn free_vars(lines: &[u8; 2560], n: usize, q: u8) -> u32
+fn free_vars(lines: &[u8; 2560], n: usize, q: u8) -> u32
     requires { ⌜ InForm n (now lines) q × (length (now lines) ≡ 2560) ⌝ }
     ensures { λ r. ⌜ r ≡ maskOf (free (tree (linesView n (now (lines .entry))) q)) ⌝ }
 {
@@ -339,7 +322,7 @@ pub fn free_vars(lines: &[u8; 2560], n: usize, q: u8) -> u32
 }
 
 // Whether the process of line q has no free variable.
-pub fn closed(lines: &[u8; 2560], n: usize, q: u8) -> bool
+fn closed(lines: &[u8; 2560], n: usize, q: u8) -> bool
     requires { ⌜ InForm n (now lines) q × (length (now lines) ≡ 2560) ⌝ }
     ensures { λ r. ⌜ r ≡ empty (free (tree (linesView n (now (lines .entry))) q)) ⌝ }
 {
@@ -347,7 +330,7 @@ pub fn closed(lines: &[u8; 2560], n: usize, q: u8) -> bool
 }
 
 // Whether no root has a free variable. Where each line is named once, each is walked once.
-pub fn roots_closed(lines: &[u8; 2560], n: usize, roots: &[u8; 128], m: usize) -> bool
+fn roots_closed(lines: &[u8; 2560], n: usize, roots: &[u8; 128], m: usize) -> bool
     requires { ⌜ RootsIn n (now lines) m (now roots) ⌝ }
     ensures { λ r. ⌜ r ≡ rootsClosed (linesView n (now (lines .entry))) (map (λ x. x .line) (rootsView m (now (roots .entry)))) ⌝ }
 {
@@ -360,4 +343,27 @@ pub fn roots_closed(lines: &[u8; 2560], n: usize, roots: &[u8; 128], m: usize) -
         }
     }
     true
+}
+
+// 5, 6, 8 or 0, over a whole text: its lines in turn and in order with the roots among them, each named once, the roots closed.
+pub fn whole_number(turn: bool, lines: &[u8; 2560], n: usize, roots: &[u8; 128], m: usize) -> u8
+    requires { ⌜ (n ≤ 256) × (m ≤ 64) × (length (now lines) ≡ 2560) ⌝ }
+    ensures { λ r. ⌜ r ≡ wholeNumber turn (linesView n (now (lines .entry))) (map (λ x. x .line) (rootsView m (now (roots .entry)))) ⌝ }
+{
+    if !turn {
+        return 5;
+    }
+    if !in_order(lines, n) {
+        return 5;
+    }
+    if !roots_present(roots, m, n) {
+        return 5;
+    }
+    if !named_once(lines, n, roots, m) {
+        return 6;
+    }
+    if !roots_closed(lines, n, roots, m) {
+        return 8;
+    }
+    0
 }

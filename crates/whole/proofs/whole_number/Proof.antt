@@ -1,11 +1,11 @@
 use borrow.Author.Needs.{needs}
-use Rattle.nets.proofs.whole_number.Statement.{statement}
-use Rattle.nets.proofs.whole_number.Tie as tie
+use Rattle.whole.proofs.whole_number.Statement.{statement}
+use Rattle.whole.proofs.whole_number.Tie as tie
 use mathlib.Core.Path.{sym, _∙_}
 use mathlib.Core.Bool.{true, false}
 use Rattle.sets.proofs.Tables.{length-table}
 use Rattle.tables.specs.View.{linesView}
-use Rattle.nets.proofs.Whole.{whole-turn, whole-order, whole-present, whole-once, whole-closed}
+use Rattle.whole.proofs.Number.{whole-turn, whole-order, whole-present, whole-once, whole-closed}
 use Rattle.sets.proofs.Lists.{not-no, not-yes}
 
 returns : tie.Need-returns
@@ -38,11 +38,11 @@ roots-closed-requires c κs = record { long = c .before .before .before .before 
 
 returns-5 : tie.Need-returns-5
 unfolding linesView
-returns-5 c = whole-closed _ _ _ (length-table _ _) true (not-no _ (c .before .before .before .before .before .before .before .before .if1 .left)) (sym (c .before .before .before .before .before .before .before .in-order .ensures) ∙ not-no _ (c .before .before .before .before .before .before .if2 .left)) (sym (c .before .before .before .before .before .roots-present .ensures) ∙ not-no _ (c .before .before .before .before .if3 .left)) (sym (c .before .before .before .named-once .ensures) ∙ not-no _ (c .before .before .if4 .left)) (sym (c .before .roots-closed .ensures) ∙ c .if5 .taken)
+returns-5 c = whole-closed _ _ _ (length-table _ _) false (not-no _ (c .before .before .before .before .before .before .before .before .if1 .left)) (sym (c .before .before .before .before .before .before .before .in-order .ensures) ∙ not-no _ (c .before .before .before .before .before .before .if2 .left)) (sym (c .before .before .before .before .before .roots-present .ensures) ∙ not-no _ (c .before .before .before .before .if3 .left)) (sym (c .before .before .before .named-once .ensures) ∙ not-no _ (c .before .before .if4 .left)) (sym (c .before .roots-closed .ensures) ∙ not-yes _ (c .if5 .taken))
 
 returns-6 : tie.Need-returns-6
 unfolding linesView
-returns-6 c = whole-closed _ _ _ (length-table _ _) false (not-no _ (c .before .before .before .before .before .before .before .before .if1 .left)) (sym (c .before .before .before .before .before .before .before .in-order .ensures) ∙ not-no _ (c .before .before .before .before .before .before .if2 .left)) (sym (c .before .before .before .before .before .roots-present .ensures) ∙ not-no _ (c .before .before .before .before .if3 .left)) (sym (c .before .before .before .named-once .ensures) ∙ not-no _ (c .before .before .if4 .left)) (sym (c .before .roots-closed .ensures) ∙ c .if5 .left)
+returns-6 c = whole-closed _ _ _ (length-table _ _) true (not-no _ (c .before .before .before .before .before .before .before .before .if1 .left)) (sym (c .before .before .before .before .before .before .before .in-order .ensures) ∙ not-no _ (c .before .before .before .before .before .before .if2 .left)) (sym (c .before .before .before .before .before .roots-present .ensures) ∙ not-no _ (c .before .before .before .before .if3 .left)) (sym (c .before .before .before .named-once .ensures) ∙ not-no _ (c .before .before .if4 .left)) (sym (c .before .roots-closed .ensures) ∙ not-no _ (c .if5 .left))
 
 pub whole-number-spec : {M : Type 1} → statement M
 whole-number-spec =
