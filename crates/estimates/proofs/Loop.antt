@@ -28,7 +28,7 @@ use Rattle.scan.proofs.Progress.{progress-none, progress-more, progress-bad, pr
 use Rattle.repeats.specs.Kept.{KeysAre}
 use Rattle.estimates.specs.Rows.{EstimateTables, EstimateTally, Passed, fullOf, placedOf}
 use Rattle.estimates.specs.Read.{estimateAnswer}
-use Rattle.estimates.proofs.Rows.{tally-more, tuples-few}
+use Rattle.estimates.proofs.Rows.{tally-more, tuples-few, keys-count}
 
 -- no row is refused so far, and the counts are within limits
 pub record Running (t : Tally) : Type 0 where
@@ -96,13 +96,13 @@ running-more row t P R =
 module _ (n : ℕ) (s binds stand hold keys : List ℕ) (t : Tally) (at next : ℕ) (row : RowData) (number : ℕ)
     (R : Reading n s binds stand hold keys t at) (h : at < length s) (left : rowsLeft s at ≡ rowView row ∷ rowsLeft s next)
     (J : (m : ℕ) (above : List Row) (stand : List ℕ) → EstimateTally m above t → EstimateTables above binds stand (t .tuples) hold → KeysAre groupA above keys (t .tuples) → judge (anEstimate m) above (rowView row) ≡ judgedBy number (rowData row)) where
-  pub reading-more : rowGood row ≡ true → number ≡ 0 → at < next → Passed row t → {binds₁ stand₁ hold₁ keys₁ : List ℕ} → (length binds₁ ≡ 32) × (length stand₁ ≡ 1536) × (length hold₁ ≡ 1024) → ((above : List Row) → EstimateTables above binds stand (t .tuples) hold → EstimateTables (above ++ (rowData row ∷ [])) binds₁ stand₁ (countedOf row t .tuples) hold₁) → length keys₁ ≡ 256 → ((above : List Row) → KeysAre groupA above keys (t .tuples) → KeysAre groupA (above ++ (rowData row ∷ [])) keys₁ (countedOf row t .tuples)) → (u : Tally) → u ≡ countedOf row t → Reading n s binds₁ stand₁ hold₁ keys₁ u next
+  pub reading-more : rowGood row ≡ true → number ≡ 0 → at < next → Passed row t → {binds₁ stand₁ hold₁ keys₁ : List ℕ} → (length binds₁ ≡ 32) × (length stand₁ ≡ 1536) × (length hold₁ ≡ 1024) → ((above : List Row) → EstimateTables above binds stand (t .tuples) hold → EstimateTables (above ++ (rowData row ∷ [])) binds₁ stand₁ (countedOf row t .tuples) hold₁) → length keys₁ ≡ 256 → ((above : List Row) → KeysAre groupA above keys (t .tuples) → KeysAre groupA (above ++ (rowData row ∷ [])) keys₁ (cond (eqb (row .group) groupA) (t .tuples + 1) (t .tuples))) → (u : Tally) → u ≡ countedOf row t → Reading n s binds₁ stand₁ hold₁ keys₁ u next
   unfolding countedOf
   reading-more G z l P {binds₁} {stand₁} {hold₁} {keys₁} L S M N u e =
       let g = going-on (R .progress) (R .running h .none) in
       let above = g .0 in
       let j = J n above stand (g .1 .1) (g .1 .0) (g .1 .2) in
-      let p = progress-more (anEstimate n) (λ above. EstimateTables above binds₁ stand₁ (countedOf row t .tuples) hold₁ × EstimateTally n above (countedOf row t) × KeysAre groupA above keys₁ (countedOf row t .tuples)) s at (t .rows) next row above number left (g .2) (g .3) j z (S above (g .1 .0), tally-more n above row t G (g .1 .1) P, N above (g .1 .2)) in
+      let p = progress-more (anEstimate n) (λ above. EstimateTables above binds₁ stand₁ (countedOf row t .tuples) hold₁ × EstimateTally n above (countedOf row t) × KeysAre groupA above keys₁ (countedOf row t .tuples)) s at (t .rows) next row above number left (g .2) (g .3) j z (S above (g .1 .0), tally-more n above row t G (g .1 .1) P, subst (λ (k : ℕ). KeysAre groupA (above ++ (rowData row ∷ [])) keys₁ k) (keys-count row t P) (N above (g .1 .2))) in
       subst (λ (u : Tally). Reading n s binds₁ stand₁ hold₁ keys₁ u next) (sym e) (record {
         progress = subst (λ (k : ℕ). Progress (anEstimate n) (λ above. EstimateTables above binds₁ stand₁ (countedOf row t .tuples) hold₁ × EstimateTally n above (countedOf row t) × KeysAre groupA above keys₁ (countedOf row t .tuples)) s next k (t .rows + 1)) (sym (R .running h .none)) p;
         running = λ q. running-more row t P (R .running h);

@@ -26,8 +26,6 @@ use Rattle.scan.specs.Tallies as Tallies
 use Rattle.scan.proofs.Numbers.{formed, not-formed, early-passed}
 use Rattle.scan.proofs.Tallies.{and-under, group-none}
 use Rattle.repeats.proofs.Rows.{as-kept}
-use Rattle.repeats.specs.Kept.{KeysAre}
-use Rattle.repeats.proofs.Keys.{keys-other}
 use Rattle.estimates.specs.Rows.{EstimateTables, EstimateTally, Passed, fullOf, placedOf}
 
 -- the tables, with a row more that stands in one of them
@@ -208,16 +206,9 @@ module _ (row : RowData) (t : Tally) (G : rowGood row ≡ true) (P : Passed row 
       let by = subst (λ (g : ℕ). hold ≡ gather 1024 pairPlace (λ r. r .rights) (ofGroup g above) → new ≡ gather 1024 pairPlace (λ r. r .rights) (ofGroup g (above ++ (rowData row ∷ [])))) e h in
       subst (λ (k : ℕ). EstimateTables (above ++ (rowData row ∷ [])) binds stand k new) (tuples-e row t e) (tables-e T (rowData row) (group-is row G (P .some) ∙ e) (by (T .holdIs)))
 
--- the keys with a row put in
-module _ (row : RowData) (t : Tally) (G : rowGood row ≡ true) (P : Passed row t) {above : List Row} {keys : List ℕ} (K : KeysAre groupA above keys (t .tuples)) where
-  pub keys-miss : (row .group ≡ groupA → ⊥) → KeysAre groupA (above ++ (rowData row ∷ [])) keys (countedOf row t .tuples)
-  unfolding tupleGroup either placedOf
-  keys-miss away =
-      let l = leb-le groupB (row .group) (and-l _ _ (P .placed)) in
-      let e : tupleGroup (row .group) ≡ false = rw (ne-eqb (row .group) groupT (λ z. omega arith), ne-eqb (row .group) groupA away) in
-      subst (λ (k : ℕ). KeysAre groupA (above ++ (rowData row ∷ [])) keys k) (tuples-by row t false e) (keys-other (rowData row) (λ q. away (sym (group-is row G (P .some)) ∙ q)) K)
-
-  pub keys-hit : {new : List ℕ} → row .group ≡ groupA → (KeysAre (row .group) above keys (t .tuples) → KeysAre (row .group) (above ++ (rowData row ∷ [])) new (t .tuples + 1)) → KeysAre groupA (above ++ (rowData row ∷ [])) new (countedOf row t .tuples)
-  keys-hit {new} e h =
-      let by = subst (λ (g : ℕ). KeysAre g above keys (t .tuples) → KeysAre g (above ++ (rowData row ∷ [])) new (t .tuples + 1)) e h in
-      subst (λ (k : ℕ). KeysAre groupA (above ++ (rowData row ∷ [])) new k) (tuples-a row t e) (by K)
+-- a tuple of an estimate is that of an A row
+pub keys-count : (row : RowData) (t : Tally) → Passed row t → cond (eqb (row .group) groupA) (t .tuples + 1) (t .tuples) ≡ countedOf row t .tuples
+unfolding countedOf Tallies.more tupleGroup either placedOf
+keys-count row t P =
+    let l = leb-le groupB (row .group) (and-l _ _ (P .placed)) in
+    rw (ne-eqb (row .group) groupT (λ z. omega arith))

@@ -123,21 +123,6 @@ fn store(
     }
 }
 
-// The key of an A row put beside those above.
-fn keep_key(row: RowData, tally: Tally, keys: &mut [u32; 256])
-    requires { ⌜ rowGood row ≡ true ⌝ }
-    requires { ⌜ Passed row tally ⌝ }
-    requires { ⌜ length (now keys) ≡ 256 ⌝ }
-    ensures { λ r. ⌜ length (now (keys .exit)) ≡ 256 ⌝ }
-    ensures { λ r. ⌜ ((above : List Row) → KeysAre groupA above (now (keys .entry)) (tally .tuples) → KeysAre groupA (above ++ (rowData row ∷ [])) (now (keys .exit)) (countedOf row tally .tuples)) ⌝ }
-{
-    let group = row.group;
-    if group != GROUP_A {
-        return;
-    }
-    repeats::put_key(keys, tally.tuples, row);
-}
-
 // An estimate from its bytes, given the n of the net.
 pub fn read_estimate(n: u8, s: &[u8]) -> EstimateRead
     ensures { λ r. ⌜ estimateAnswer r ≡ readEstimate n (now (s .entry)) ⌝ }
@@ -155,7 +140,7 @@ pub fn read_estimate(n: u8, s: &[u8]) -> EstimateRead
         let number = row_number(row, tally, &binds, &keys, &hold);
         if number == 0 {
             store(row, tally, &mut binds, &mut stand, &mut hold);
-            keep_key(row, tally, &mut keys);
+            repeats::keep_key(&mut keys, tally.tuples, GROUP_A, row);
             tally = scan::counted(row, tally);
             at = end + 1;
         } else {

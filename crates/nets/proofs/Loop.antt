@@ -33,7 +33,7 @@ use Rattle.nets.specs.Rows.{NetTables, NetTally, Room, Passed}
 use Rattle.whole.specs.Number.{wholeNumber}
 use Rattle.whole.proofs.Number.{whole-is}
 use Rattle.nets.specs.Read.{netAnswer, refusalOf}
-use Rattle.nets.proofs.Rows.{tally-more, room-more, empty-is}
+use Rattle.nets.proofs.Rows.{tally-more, room-more, empty-is, keys-count}
 
 -- what is kept of the rows above
 abbrev pub Above : List ℕ → List ℕ → List ℕ → List ℕ → List ℕ → List ℕ → Tally → List Row → Type 0
@@ -98,14 +98,14 @@ reading-start s t e = subst (λ (t : Tally). Reading s (replicate {A = ℕ} 1024
 module _ (s homes boxes tuples roots lines keys : List ℕ) (t : Tally) (at next : ℕ) (row : RowData) (number : ℕ)
     (R : Reading s homes boxes tuples roots lines keys t at) (h : at < length s) (left : rowsLeft s at ≡ rowView row ∷ rowsLeft s next)
     (J : (above : List Row) (tuples lines : List ℕ) → NetTally above t → NetTables above homes boxes tuples (t .tuples) roots (t .roots) lines (t .lines) → KeysAre groupT above keys (t .tuples) → judge aNet above (rowView row) ≡ judgedBy number (rowData row)) where
-  pub reading-more : rowGood row ≡ true → number ≡ 0 → at < next → Passed row t → {homes₁ boxes₁ tuples₁ roots₁ lines₁ keys₁ : List ℕ} → (length homes₁ ≡ 1024) × (length boxes₁ ≡ 1056) × (length tuples₁ ≡ 1536) × (length roots₁ ≡ 128) × (length lines₁ ≡ 2560) → ((above : List Row) → NetTables above homes boxes tuples (t .tuples) roots (t .roots) lines (t .lines) → NetTables (above ++ (rowData row ∷ [])) homes₁ boxes₁ tuples₁ (countedOf row t .tuples) roots₁ (countedOf row t .roots) lines₁ (countedOf row t .lines)) → length keys₁ ≡ 256 → ((above : List Row) → KeysAre groupT above keys (t .tuples) → KeysAre groupT (above ++ (rowData row ∷ [])) keys₁ (countedOf row t .tuples)) → (u : Tally) → u ≡ countedOf row t → Reading s homes₁ boxes₁ tuples₁ roots₁ lines₁ keys₁ u next
+  pub reading-more : rowGood row ≡ true → number ≡ 0 → at < next → Passed row t → {homes₁ boxes₁ tuples₁ roots₁ lines₁ keys₁ : List ℕ} → (length homes₁ ≡ 1024) × (length boxes₁ ≡ 1056) × (length tuples₁ ≡ 1536) × (length roots₁ ≡ 128) × (length lines₁ ≡ 2560) → ((above : List Row) → NetTables above homes boxes tuples (t .tuples) roots (t .roots) lines (t .lines) → NetTables (above ++ (rowData row ∷ [])) homes₁ boxes₁ tuples₁ (countedOf row t .tuples) roots₁ (countedOf row t .roots) lines₁ (countedOf row t .lines)) → length keys₁ ≡ 256 → ((above : List Row) → KeysAre groupT above keys (t .tuples) → KeysAre groupT (above ++ (rowData row ∷ [])) keys₁ (cond (eqb (row .group) groupT) (t .tuples + 1) (t .tuples))) → (u : Tally) → u ≡ countedOf row t → Reading s homes₁ boxes₁ tuples₁ roots₁ lines₁ keys₁ u next
   unfolding countedOf
   reading-more G z l P {homes₁} {boxes₁} {tuples₁} {roots₁} {lines₁} {keys₁} L S M N u e =
       let g = going-on (R .progress) (R .running h) in
       let above = g .0 in
       let j = J above tuples lines (g .1 .1) (g .1 .0) (g .1 .2) in
       let k = tally-more row t above (g .1 .0) (g .1 .1) (as-kept row G (P .low) (P .some)) G (group-is row G (P .some)) (P .placed) in
-      let p = progress-more aNet (Above homes₁ boxes₁ tuples₁ roots₁ lines₁ keys₁ (countedOf row t)) s at (t .rows) next row above number left (g .2) (g .3) j z (S above (g .1 .0), k, N above (g .1 .2)) in
+      let p = progress-more aNet (Above homes₁ boxes₁ tuples₁ roots₁ lines₁ keys₁ (countedOf row t)) s at (t .rows) next row above number left (g .2) (g .3) j z (S above (g .1 .0), k, subst (λ (k : ℕ). KeysAre groupT (above ++ (rowData row ∷ [])) keys₁ k) (keys-count row t P) (N above (g .1 .2))) in
       subst (λ (u : Tally). Reading s homes₁ boxes₁ tuples₁ roots₁ lines₁ keys₁ u next) (sym e) (record {
         progress = subst (λ (k : ℕ). Progress aNet (Above homes₁ boxes₁ tuples₁ roots₁ lines₁ keys₁ (countedOf row t)) s next k (t .rows + 1)) (sym (R .running h)) p;
         room = room-more row t G P (R .room);

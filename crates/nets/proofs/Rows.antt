@@ -30,8 +30,7 @@ use Rattle.scan.specs.Tallies as Tallies
 use Rattle.scan.specs.Numbers.{earlyOf, lateOf, numberOf, judgedBy}
 use Rattle.scan.proofs.Numbers.{formed, not-formed}
 use Rattle.scan.proofs.Tallies.{turn-own, turn-other, group-none, size-row, own-row}
-use Rattle.repeats.specs.Kept.{Kept, KeysAre}
-use Rattle.repeats.proofs.Keys.{keys-other}
+use Rattle.repeats.specs.Kept.{Kept}
 use Rattle.nets.specs.Rows.{NetTables, NetTally, Room, fullOf, placedOf, Passed}
 
 -- the tables, with a row more that stands in one of them
@@ -333,21 +332,9 @@ room-same t u e R = record {
   sizeFew = omega (arith, e .0, R .sizeFew);
 }
 
--- the keys with a row put in
-module _ (row : RowData) (t : Tally) (G : rowGood row ≡ true) (P : Passed row t) {above : List Row} {keys : List ℕ} (K : KeysAre groupT above keys (t .tuples)) where
-  count-by : (b : Bool) → tupleGroup (row .group) ≡ b → cond b (t .tuples + 1) (t .tuples) ≡ countedOf row t .tuples
-  unfolding countedOf Tallies.more
-  count-by b e = ap (λ (x : Bool). cond x (t .tuples + 1) (t .tuples)) (sym e)
-
-  pub keys-miss : (row .group ≡ groupT → ⊥) → KeysAre groupT (above ++ (rowData row ∷ [])) keys (countedOf row t .tuples)
-  unfolding tupleGroup either
-  keys-miss away =
-      let l = own-group row t P in
-      let e : tupleGroup (row .group) ≡ false = rw (ne-eqb (row .group) groupT away, ne-eqb (row .group) groupA (λ z. omega arith)) in
-      subst (λ (k : ℕ). KeysAre groupT (above ++ (rowData row ∷ [])) keys k) (count-by false e) (keys-other (rowData row) (λ q. away (sym (group-is row G (P .some)) ∙ q)) K)
-
-  pub keys-hit : {new : List ℕ} → row .group ≡ groupT → (KeysAre (row .group) above keys (t .tuples) → KeysAre (row .group) (above ++ (rowData row ∷ [])) new (t .tuples + 1)) → KeysAre groupT (above ++ (rowData row ∷ [])) new (countedOf row t .tuples)
-  unfolding tupleGroup either
-  keys-hit {new} e h =
-      let by = subst (λ (g : ℕ). KeysAre g above keys (t .tuples) → KeysAre g (above ++ (rowData row ∷ [])) new (t .tuples + 1)) e h in
-      subst (λ (k : ℕ). KeysAre groupT (above ++ (rowData row ∷ [])) new k) (count-by true (ap tupleGroup e)) (by K)
+-- a tuple of a net is that of a T row
+pub keys-count : (row : RowData) (t : Tally) → Passed row t → cond (eqb (row .group) groupT) (t .tuples + 1) (t .tuples) ≡ countedOf row t .tuples
+unfolding countedOf Tallies.more tupleGroup
+keys-count row t P =
+    let l = own-group row t P in
+    rw (ne-eqb (row .group) groupA (λ z. omega arith), or-false (eqb (row .group) groupT))

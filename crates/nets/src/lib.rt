@@ -2,7 +2,7 @@
 ghost use mathlib.Core.Path.{_≡_};
 ghost use mathlib.Core.Bool.{true};
 ghost use mathlib.Core.List.{List, [], _∷_, _++_, map};
-ghost use Prim.Native.Nat.{ℕ, _<_, _≤_};
+ghost use Prim.Native.Nat.{ℕ, _<_};
 ghost use lib.ListN.{length};
 ghost use Rattle.klaim.specs.Rows.{Row, groupT};
 ghost use Rattle.klaim.specs.Reader.{aNet, judge, inLimits, repeated, readNet};
@@ -152,21 +152,6 @@ fn store(
     }
 }
 
-// The key of a T row put beside those above.
-fn keep_key(row: RowData, tally: Tally, keys: &mut [u32; 256])
-    requires { ⌜ rowGood row ≡ true ⌝ }
-    requires { ⌜ Passed row tally ⌝ }
-    requires { ⌜ length (now keys) ≡ 256 ⌝ }
-    ensures { λ r. ⌜ length (now (keys .exit)) ≡ 256 ⌝ }
-    ensures { λ r. ⌜ ((above : List Row) → KeysAre groupT above (now (keys .entry)) (tally .tuples) → KeysAre groupT (above ++ (rowData row ∷ [])) (now (keys .exit)) (countedOf row tally .tuples)) ⌝ }
-{
-    let group = row.group;
-    if group != GROUP_T {
-        return;
-    }
-    repeats::put_key(keys, tally.tuples, row);
-}
-
 // The number of a refusal, 0 if there is none, and its row.
 pub struct Refusal {
     pub number: u8,
@@ -220,7 +205,7 @@ pub fn read_net(s: &[u8]) -> NetRead
                 &mut roots,
                 &mut lines,
             );
-            keep_key(row, tally, &mut keys);
+            repeats::keep_key(&mut keys, tally.tuples, GROUP_T, row);
             tally = scan::counted(row, tally);
             at = end + 1;
         } else {

@@ -1,7 +1,7 @@
 -- Laws of the keys of tuples.
 -- Assumes nothing.
 use mathlib.Core.Path.{_≡_, refl, sym, ap, ap₂, _∙_}
-use mathlib.Core.Bool.{Bool, true}
+use mathlib.Core.Bool.{Bool, true, cond}
 use mathlib.Core.List.{List, [], _∷_, _++_}
 use Prim.Native.Nat.{ℕ, zero, suc, _+_, _*_, _<_, _≤_}
 use native.Mathlib.Omega.{arith}
@@ -13,9 +13,11 @@ use borrow.Author.Tests.{eq-eqb, ne-eqb, lt-ltb, ltb-true}
 use Rattle.sets.specs.Lists.{_&_, either, all, any, same}
 use Rattle.sets.proofs.Lists.{and-l, and-r, any-last}
 use Rattle.klaim.specs.Rows.{Row}
-use Rattle.klaim.specs.Reader.{inLimits}
 use Rattle.klaim.proofs.Above.{map-own, map-other}
 use Rattle.tables.specs.View.{rowAt}
+use Rattle.forms.specs.declared.RowData.{RowData}
+use Rattle.forms.specs.Forms.{rowData, rowGood}
+use Rattle.judge.proofs.Limits.{group-is}
 use Rattle.repeats.specs.Kept.{tupleKey, keyStep, KeysAre}
 
 -- a key is never 0
@@ -45,10 +47,6 @@ key-same (x ∷ xs) [] h l = sym (ne-eqb (x + 32 * tupleKey xs) 1 (λ q. omega (
 key-same (x ∷ xs) (y ∷ ys) h l =
     ap (λ (b : Bool). eqb x y & b) (key-same xs ys (and-r _ _ h) (and-r _ _ l))
     ∙ and-eqb x y (tupleKey xs) (tupleKey ys) (ltb-true x 32 (and-l _ _ h)) (ltb-true y 32 (and-l _ _ l))
-
-pub sites-low : (r : Row) → inLimits r ≡ true → Low (r .sites)
-unfolding inLimits
-sites-low r h = and-l _ _ (and-r _ _ (and-r _ _ (and-r _ _ h)))
 
 -- the key of a tuple's bytes, site by site
 five : (n a b c d e : ℕ) → tupleKey (take n (a ∷ b ∷ c ∷ d ∷ e ∷ [])) ≡ keyStep 0 n a (keyStep 1 n b (keyStep 2 n c (keyStep 3 n d (keyStep 4 n e 1))))
@@ -80,7 +78,7 @@ pub key-chain : (bs : List ℕ) → length bs ≡ 6 → (fifth fourth third seco
 key-chain bs h k5 k4 k3 k2 k1 e5 e4 e3 e2 e1 = rw (e1, e2, e3, e4, e5) (sym (key-bytes bs h))
 
 -- one key more
-pub keys-own : {g k v : ℕ} {above : List Row} {keys new : List ℕ} (r : Row) → k < length keys → new ≡ set keys k v → v ≡ tupleKey (r .sites) → r .group ≡ g → KeysAre g above keys k → KeysAre g (above ++ (r ∷ [])) new (k + 1)
+keys-own : {g k v : ℕ} {above : List Row} {keys new : List ℕ} (r : Row) → k < length keys → new ≡ set keys k v → v ≡ tupleKey (r .sites) → r .group ≡ g → KeysAre g above keys k → KeysAre g (above ++ (r ∷ [])) new (k + 1)
 keys-own {g} {k} {v} {above} {keys} {new} r h e q p K = record {
   is =
       ap (λ (m : ℕ). take m new) {x = k + 1} {y = suc k} (omega arith)
@@ -90,8 +88,16 @@ keys-own {g} {k} {v} {above} {keys} {new} r h e q p K = record {
       ∙ sym (map-own (λ r. tupleKey (r .sites)) g above r (eq-eqb (r .group) g p));
 }
 
-pub keys-other : {g k : ℕ} {above : List Row} {keys : List ℕ} (r : Row) → (r .group ≡ g → ⊥) → KeysAre g above keys k → KeysAre g (above ++ (r ∷ [])) keys k
+keys-other : {g k : ℕ} {above : List Row} {keys : List ℕ} (r : Row) → (r .group ≡ g → ⊥) → KeysAre g above keys k → KeysAre g (above ++ (r ∷ [])) keys k
 keys-other {g} {k} {above} {keys} r p K = record { is = K .is ∙ sym (map-other (λ r. tupleKey (r .sites)) g above r (ne-eqb (r .group) g p)) }
+
+-- the keys of group g with a row put in
+module _ (row : RowData) (G : rowGood row ≡ true) (h : 0 < row .group) {g k : ℕ} {above : List Row} {keys : List ℕ} (K : KeysAre g above keys k) where
+  pub keep-other : (row .group ≡ g → ⊥) → KeysAre g (above ++ (rowData row ∷ [])) keys (cond (eqb (row .group) g) (k + 1) k)
+  keep-other away = rw (ne-eqb (row .group) g away) (keys-other (rowData row) (λ q. away (sym (group-is row G h) ∙ q)) K)
+
+  pub keep-own : row .group ≡ g → {new : List ℕ} {v : ℕ} → k < length keys → new ≡ set keys k v → v ≡ tupleKey (rowData row .sites) → KeysAre g (above ++ (rowData row ∷ [])) new (cond (eqb (row .group) g) (k + 1) k)
+  keep-own e l n q = rw (eq-eqb (row .group) g e) (keys-own (rowData row) l n q (group-is row G h ∙ e) K)
 
 -- a search through the first keys
 pub any-more : (f : ℕ → Bool) (l : List ℕ) (i : ℕ) → i < length l → either (any f (take i l)) (f (getD l i 0)) ≡ any f (take (i + 1) l)

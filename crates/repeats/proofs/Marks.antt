@@ -10,9 +10,8 @@ use borrow.Author.Tests.{ne-eqb}
 use Rattle.sets.specs.Lists.{All, done, more, _&_, either, any, only, keep, _∪_}
 use Rattle.sets.specs.Bits.{mem, join, joins, grant}
 use Rattle.sets.proofs.Lists.{iff, and-l, and-r, and-i, eqb-eq, eqb-i}
-use Rattle.sets.proofs.Bits.{has-or, has-none}
+use Rattle.sets.proofs.Bits.{has-or, has-none, mem-one}
 use Rattle.sets.proofs.Joins.{join-zero, join-none}
-use Rattle.flow.proofs.Sites.{mem-single}
 
 -- some element that passes both tests
 only-any : {A : Type 0} (p : A → Bool) (b : Bool) (x : A) (ys : List A) → any p (only b x ∪ ys) ≡ either (b & p x) (any p ys)
@@ -49,7 +48,7 @@ joins-some p v (more {x = x} {xs = xs} h hs) = join-some (grant (p x) (v x)) (jo
 -- a union has site s if some part of it is s
 grant-mem : (b : Bool) (n s : ℕ) → mem s (grant b (2 ^ n)) ≡ (b & eqb n s)
 unfolding grant _&_
-grant-mem true n s = mem-single s n
+grant-mem true n s = mem-one s n ∙ iff (λ t. eqb-i (sym (eqb-eq {m = s} {n = n} t))) (λ t. eqb-i (sym (eqb-eq {m = n} {n = s} t)))
 grant-mem false n s = has-none s
 
 pub joins-mem : {A : Type 0} (p : A → Bool) (q : A → ℕ) (s : ℕ) (xs : List A) → mem s (joins (λ x. grant (p x) (2 ^ q x)) xs) ≡ any (λ x. p x & eqb (q x) s) xs

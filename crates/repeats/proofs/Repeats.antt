@@ -4,7 +4,7 @@ use mathlib.Core.Path.{_≡_, refl, sym, ap, ap₂, subst, _∙_}
 use mathlib.Core.Logic.{_⊎_, inl, inr}
 use mathlib.Core.Bool.{Bool, true, false, not, false≢true}
 use mathlib.Core.List.{List, [], _∷_, map}
-use Prim.Native.Nat.{ℕ, _+_, _*_, _<_, _≤_, _^_}
+use Prim.Native.Nat.{ℕ, _+_, _*_, _<_, _^_}
 use native.Mathlib.Omega.{arith}
 use lib.Dec.{eqb, ltb}
 use lib.ListN.{getD}
@@ -22,9 +22,10 @@ use Rattle.forms.specs.declared.RowData.{RowData}
 use Rattle.forms.specs.Forms.{rowData, rowGood, pairGroup, tupleGroup}
 use Rattle.forms.proofs.RowForms.{pair-case, tuple-case, pair-some, tuple-some}
 use Rattle.judge.proofs.Limits.{group-is}
+use Rattle.stores.proofs.Shapes.{within}
 use Rattle.repeats.specs.Kept.{Kept, rootSame, tupleKey}
 use Rattle.repeats.proofs.Marks.{any-keep, any-map, joins-some, joins-mem, two-same}
-use Rattle.repeats.proofs.Keys.{key-same, sites-low}
+use Rattle.repeats.proofs.Keys.{key-same}
 use Rattle.repeats.proofs.Rows.{PairRow, BoxRow, BoundRow, RootRow, pair-row, box-row, bound-row, root-row, tuple-row, kept-pair, kept-box, kept-bound, kept-root, kept-tuple}
 
 -- rows of two groups have two keys
@@ -95,33 +96,21 @@ pair-alike {s} {t} {s'} {t'} {b} {r} B R e =
     ∙ sym (ap₂ eqb (B .placed) (R .placed))
 
 module _ (row : RowData) (G : rowGood row ≡ true) (L : inLimits (rowData row) ≡ true) where
-  pub pair-low : pairGroup (row .group) ≡ true → (row .line .target .number < 32) × (row .line .fields .a .number < 32)
-  pair-low P = let R = pair-row row G L P in (R .s-low, R .t-low)
-
-  pub pair-seen : (P : pairGroup (row .group) ≡ true) (at : ℕ) → at ≡ 32 * row .line .target .number + row .line .fields .a .number → (t : List ℕ) {above : List Row} → All Kept above → t ≡ gather 1024 pairPlace (λ x. x .rights) (ofGroup (row .group) above) → not (eqb (getD t at 0) 0) ≡ repeated above (rowData row)
+  pub pair-seen : (P : pairGroup (row .group) ≡ true) (at : ℕ) → at ≡ pairPlace (rowData row) → (t : List ℕ) {above : List Row} → All Kept above → t ≡ gather 1024 pairPlace (λ x. x .rights) (ofGroup (row .group) above) → not (eqb (getD t at 0) 0) ≡ repeated above (rowData row)
   pair-seen P at a t {above} K e =
       let R = pair-row row G L P in
       let g = group-is row G (ltb-true 0 (row .group) (pair-some (row .group) P)) in
       let of : (b : Row) → Kept b → b .group ≡ row .group → pairGroup (b .group) ≡ true = λ b k q. subst (λ (x : ℕ). pairGroup x ≡ true) (sym q) P in
-      ap₂ (λ (l : List ℕ) (i : ℕ). not (eqb (getD l i 0) 0)) e (a ∙ sym (R .placed))
+      ap₂ (λ (l : List ℕ) (i : ℕ). not (eqb (getD l i 0) 0)) e a
       ∙ place-seen (rowData row) (row .group) g (pair-no-q (row .group) P) pairPlace (λ b k q. (pair-alike (kept-pair k (of b k q)) R (q ∙ sym g), kept-pair k (of b k q) .some)) 1024 (omega (arith, R .placed, R .s-low, R .t-low)) K
 
 -- D rows: `self` stands behind the sites
-toward-low : (b : Bool) (n : ℕ) → all (λ s. ltb s 32) (only b n) ≡ true → getD (only b n) 0 32 ≤ 32
-unfolding all only
-toward-low true n h = omega (arith, ltb-true n 32 (and-l _ _ h))
-toward-low false n h = omega arith
-
 toward-same : (a b : Bool) (m n : ℕ) → all (λ s. ltb s 32) (only a m) ≡ true → all (λ s. ltb s 32) (only b n) ≡ true → same (only a m) (only b n) ≡ eqb (getD (only a m) 0 32) (getD (only b n) 0 32)
 unfolding all only same
 toward-same true true m n h l = and-true (eqb m n)
 toward-same true false m n h l = let g = ltb-true m 32 (and-l _ _ h) in sym (ne-eqb m 32 (λ e. omega arith))
 toward-same false true m n h l = let g = ltb-true n 32 (and-l _ _ l) in sym (ne-eqb 32 n (λ e. omega arith))
 toward-same false false m n h l = refl
-
-to-low : (m : Name) → all (λ s. ltb s 32) (sitesTo m) ≡ true → getD (sitesTo m) 0 32 ≤ 32
-unfolding sitesTo
-to-low m h = toward-low (eqb (m .kind) 1) (m .number) h
 
 to-same : (m n : Name) → all (λ s. ltb s 32) (sitesTo m) ≡ true → all (λ s. ltb s 32) (sitesTo n) ≡ true → same (sitesTo m) (sitesTo n) ≡ eqb (getD (sitesTo m) 0 32) (getD (sitesTo n) 0 32)
 unfolding sitesTo
@@ -133,8 +122,8 @@ box-keys a c ks ls = refl
 
 box-alike : {k l : ℕ} {m n : Name} {b r : Row} → BoxRow k m b → BoxRow l n r → b .group ≡ r .group → same (key b) (key r) ≡ eqb (boxPlace b) (boxPlace r)
 box-alike {k} {l} {m} {n} {b} {r} B R e =
-    let x = to-low m (B .t-low) in
-    let y = to-low n (R .t-low) in
+    let x = B .t-most in
+    let y = R .t-most in
     keys-same b r (k ∷ sitesTo m) (l ∷ sitesTo n) (B .keyed) (R .keyed) e
     ∙ box-keys k l (sitesTo m) (sitesTo n)
     ∙ ap (λ (x : Bool). eqb k l & x) (to-same m n (B .t-low) (R .t-low))
@@ -149,24 +138,18 @@ bound-alike {u} {s} {v} {t} {b} {r} B R e =
     ∙ sym (ap₂ _&_ (ap₂ eqb (B .var-is) (R .var-is)) (ap₂ eqb (B .site-is) (R .site-is)))
 
 module _ (row : RowData) (G : rowGood row ≡ true) (L : inLimits (rowData row) ≡ true) where
-  pub box-low : row .group ≡ groupD → (row .line .sandbox < 32) × (getD (sitesTo (row .line .target)) 0 32 ≤ 32)
-  box-low P = let R = box-row row G L P in (R .k-low, to-low (row .line .target) (R .t-low))
-
-  pub box-seen : row .group ≡ groupD → (at : ℕ) → at ≡ 33 * row .line .sandbox + getD (sitesTo (row .line .target)) 0 32 → (t : List ℕ) {above : List Row} → All Kept above → t ≡ gather 1056 boxPlace (λ x. x .rights) (ofGroup groupD above) → not (eqb (getD t at 0) 0) ≡ repeated above (rowData row)
+  pub box-seen : row .group ≡ groupD → (at : ℕ) → at ≡ boxPlace (rowData row) → (t : List ℕ) {above : List Row} → All Kept above → t ≡ gather 1056 boxPlace (λ x. x .rights) (ofGroup groupD above) → not (eqb (getD t at 0) 0) ≡ repeated above (rowData row)
   box-seen P at a t {above} K e =
       let R = box-row row G L P in
       let g = group-is row G (omega arith) ∙ P in
-      ap₂ (λ (l : List ℕ) (i : ℕ). not (eqb (getD l i 0) 0)) e (a ∙ sym (R .placed))
-      ∙ place-seen (rowData row) groupD g refl boxPlace (λ b k q. (box-alike (kept-box k q) R (q ∙ sym g), kept-box k q .some)) 1056 (omega (arith, R .placed, R .k-low, to-low (row .line .target) (R .t-low))) K
+      ap₂ (λ (l : List ℕ) (i : ℕ). not (eqb (getD l i 0) 0)) e a
+      ∙ place-seen (rowData row) groupD g refl boxPlace (λ b k q. (box-alike (kept-box k q) R (q ∙ sym g), kept-box k q .some)) 1056 (omega (arith, R .placed, R .k-low, R .t-most)) K
 
-  pub bound-low : row .group ≡ groupB → (row .variable < 32) × (row .line .target .number < 32)
-  bound-low P = let R = bound-row row G L P in (R .u-low, R .s-low)
-
-  pub bound-seen : row .group ≡ groupB → (t : List ℕ) {above : List Row} → All Kept above → t ≡ gather 32 (λ x. nth (x .vars) 0) (λ x. 2 ^ nth (x .sites) 0) (ofGroup groupB above) → mem (row .line .target .number) (getD t (row .variable) 0) ≡ repeated above (rowData row)
-  bound-seen P t {above} K e =
+  pub bound-seen : row .group ≡ groupB → (s u : ℕ) → s ≡ nth (rowData row .sites) 0 → u ≡ nth (rowData row .vars) 0 → (t : List ℕ) {above : List Row} → All Kept above → t ≡ gather 32 (λ x. nth (x .vars) 0) (λ x. 2 ^ nth (x .sites) 0) (ofGroup groupB above) → mem s (getD t u 0) ≡ repeated above (rowData row)
+  bound-seen P s u p q t {above} K e =
       let R = bound-row row G L P in
       let g = group-is row G (omega arith) ∙ P in
-      ap₂ (λ (s u : ℕ). mem s (getD t u 0)) (sym (R .site-is)) (sym (R .var-is))
+      ap₂ (λ (s u : ℕ). mem s (getD t u 0)) p q
       ∙ ap (λ (l : List ℕ). mem (nth (rowData row .sites) 0) (getD l (nth (rowData row .vars) 0) 0)) e
       ∙ site-seen (rowData row) groupB g refl (λ x. nth (x .vars) 0) (λ x. nth (x .sites) 0) (λ b k q. bound-alike (kept-bound k q) R (q ∙ sym g)) 32 (omega (arith, R .var-is, R .u-low)) K
 
@@ -192,10 +175,14 @@ module _ (row : RowData) (G : rowGood row ≡ true) (L : inLimits (rowData row) 
       let g = group-is row G (ltb-true 0 (row .group) (tuple-some (row .group) P)) in
       let of : (b : Row) → Kept b → b .group ≡ row .group → tupleGroup (b .group) ≡ true = λ b k q. subst (λ (x : ℕ). tupleGroup x ≡ true) (sym q) P in
       list-seen (rowData row) (row .group) g (tuple-no-q (row .group) P) (λ x. tupleKey (x .sites)) (λ x. eqb x k)
-      (λ b kept q. keys-same b (rowData row) (b .sites) (rowData row .sites) (kept-tuple kept (of b kept q)) (tuple-row row G P) (q ∙ sym g) ∙ key-same (b .sites) (rowData row .sites) (sites-low b (kept .low)) (sites-low (rowData row) L) ∙ ap (eqb (tupleKey (b .sites))) (sym s)) xs K e
+      (λ b kept q. keys-same b (rowData row) (b .sites) (rowData row .sites) (kept-tuple kept (of b kept q)) (tuple-row row G L P) (q ∙ sym g) ∙ key-same (b .sites) (rowData row .sites) (within b (kept .low) .sites-low) (within (rowData row) L .sites-low) ∙ ap (eqb (tupleKey (b .sites))) (sym s)) xs K e
 
-  pub root-seen : row .group ≡ groupL → (xs : List Root) {above : List Row} → All Kept above → xs ≡ map rootOf (ofGroup groupL above) → any (rootSame (row .line .target .number) (row .own)) xs ≡ repeated above (rowData row)
-  root-seen P xs {above} K e =
+  pub root-seen : row .group ≡ groupL → (s q : ℕ) → s ≡ nth (rowData row .sites) 0 → q ≡ nth (rowData row .lines) 0 → (xs : List Root) {above : List Row} → All Kept above → xs ≡ map rootOf (ofGroup groupL above) → any (rootSame s q) xs ≡ repeated above (rowData row)
+  unfolding rootOf
+  root-seen P s q a b xs {above} K e =
       let R = root-row row G L P in
+      let site : s ≡ row .line .target .number = a ∙ ap (λ (x : Root). x .site) (R .root-is) in
+      let line : q ≡ row .own = b ∙ ap (λ (x : Root). x .line) (R .root-is) in
       let g = group-is row G (omega arith) ∙ P in
-      list-seen (rowData row) groupL g refl rootOf (rootSame (row .line .target .number) (row .own)) (λ b k q. root-alike (kept-root k q) R (q ∙ sym g)) xs K e
+      ap₂ (λ (s q : ℕ). any (rootSame s q) xs) site line
+      ∙ list-seen (rowData row) groupL g refl rootOf (rootSame (row .line .target .number) (row .own)) (λ b k q. root-alike (kept-root k q) R (q ∙ sym g)) xs K e

@@ -1,28 +1,18 @@
 //! Whether a row repeats one of the rows above it, read off the tables that hold them.
 ghost use mathlib.Core.Path.{_≡_};
-ghost use mathlib.Core.Bool.{true};
+ghost use mathlib.Core.Bool.{true, cond};
 ghost use mathlib.Core.List.{List, [], _∷_, _++_, map};
 ghost use Prim.Native.Nat.{_+_, _*_, _^_, _<_, _≤_};
 ghost use lib.Dec.{eqb};
-ghost use lib.ListN.{length, getD, take};
+ghost use lib.ListN.{length, take};
 ghost use Rattle.sets.specs.Lists.{All, any, either};
 ghost use Rattle.klaim.specs.Rows.{Row, groupD, groupL, groupB};
 ghost use Rattle.klaim.specs.Reader.{inLimits, ofGroup, repeated, nth, gather, pairPlace, boxPlace, rootOf};
-ghost use Rattle.text.specs.Fields.{sitesTo};
 ghost use Rattle.forms.specs.Forms.{rowData, rowGood, pairGroup, tupleGroup};
 ghost use Rattle.tables.specs.View.{rowAt, rootAt, rootsView};
 ghost use Rattle.repeats.specs.Kept.{Kept, rootSame, tupleKey, keyStep, KeysAre};
 use forms::RowData;
 use tables::ROOT;
-use text::Name;
-use text::SITE;
-
-// Bytes of a site's home policy, and of a sandbox; where `self` stands in a sandbox.
-const SITES: usize = 32;
-
-const BOX: usize = 33;
-
-const OWN: usize = 32;
 
 // 3: whether an R or an E row repeats one above: its place in the table is taken.
 pub fn pair_seen(t: &[u8; 1024], row: RowData) -> bool
@@ -32,23 +22,8 @@ pub fn pair_seen(t: &[u8; 1024], row: RowData) -> bool
     requires { ⌜ pairGroup (row .group) ≡ true ⌝ }
     ensures { λ r. ⌜ ((above : List Row) → All Kept above → now (t .entry) ≡ gather 1024 pairPlace (λ x. x .rights) (ofGroup (row .group) above) → r ≡ repeated above (rowData row)) ⌝ }
 {
-    let line = row.line;
-    let target = line.target;
-    let fields = line.fields;
-    let first = fields.a;
-    let at = SITES * (target.number as usize) + (first.number as usize);
+    let at = stores::pair_place(row);
     t[at] != 0
-}
-
-// Where the t of a D row stands in a sandbox.
-fn toward(name: Name) -> usize
-    ensures { λ r. ⌜ r ≡ getD (sitesTo name) 0 32 ⌝ }
-{
-    let kind = name.kind;
-    if kind == SITE {
-        return name.number as usize;
-    }
-    OWN
 }
 
 // 3: whether a D row repeats one above: its place in the table is taken.
@@ -59,9 +34,7 @@ pub fn box_seen(t: &[u8; 1056], row: RowData) -> bool
     requires { ⌜ row .group ≡ groupD ⌝ }
     ensures { λ r. ⌜ ((above : List Row) → All Kept above → now (t .entry) ≡ gather 1056 boxPlace (λ x. x .rights) (ofGroup groupD above) → r ≡ repeated above (rowData row)) ⌝ }
 {
-    let line = row.line;
-    let k = line.sandbox as usize;
-    let at = BOX * k + toward(line.target);
+    let at = stores::box_place(row);
     t[at] != 0
 }
 
@@ -73,10 +46,8 @@ pub fn bound_seen(t: &[u32; 32], row: RowData) -> bool
     requires { ⌜ row .group ≡ groupB ⌝ }
     ensures { λ r. ⌜ ((above : List Row) → All Kept above → now (t .entry) ≡ gather 32 (λ x. nth (x .vars) 0) (λ x. 2 ^ nth (x .sites) 0) (ofGroup groupB above) → r ≡ repeated above (rowData row)) ⌝ }
 {
-    let line = row.line;
-    let target = line.target;
-    let u = row.variable as usize;
-    let s = target.number as u8;
+    let u = stores::variable_of(row);
+    let s = stores::site_of(row);
     sets::has_site(t[u], s)
 }
 
@@ -113,16 +84,19 @@ fn key(row: RowData) -> u32
     key_of(entries::tuple_bytes(row))
 }
 
-// The key of a T or an A row, behind the k that stand there.
-pub fn put_key(keys: &mut [u32; 256], k: usize, row: RowData)
+// The key of a row of the group, T or A, put behind the k that stand there. A row of another group has none.
+pub fn keep_key(keys: &mut [u32; 256], k: usize, group: u8, row: RowData)
     requires { ⌜ rowGood row ≡ true ⌝ }
     requires { ⌜ inLimits (rowData row) ≡ true ⌝ }
-    requires { ⌜ tupleGroup (row .group) ≡ true ⌝ }
-    requires { ⌜ k < 256 ⌝ }
+    requires { ⌜ (0 < row .group) × (tupleGroup group ≡ true) ⌝ }
+    requires { ⌜ (row .group ≡ group → k < 256) ⌝ }
     requires { ⌜ length (now keys) ≡ 256 ⌝ }
     ensures { λ r. ⌜ length (now (keys .exit)) ≡ 256 ⌝ }
-    ensures { λ r. ⌜ ((above : List Row) → KeysAre (row .group) above (now (keys .entry)) k → KeysAre (row .group) (above ++ (rowData row ∷ [])) (now (keys .exit)) (k + 1)) ⌝ }
+    ensures { λ r. ⌜ ((above : List Row) → KeysAre group above (now (keys .entry)) k → KeysAre group (above ++ (rowData row ∷ [])) (now (keys .exit)) (cond (eqb (row .group) group) (k + 1) k)) ⌝ }
 {
+    if row.group != group {
+        return;
+    }
     keys[k] = key(row);
 }
 
@@ -163,19 +137,19 @@ pub fn tuple_seen(keys: &[u32; 256], n: usize, row: RowData) -> bool
 }
 
 // Whether root i of a table is line q at site s.
-fn root_is(roots: &[u8; 128], i: usize, s: usize, q: usize) -> bool
+fn root_is(roots: &[u8; 128], i: usize, s: u8, q: u8) -> bool
     requires { ⌜ i < 64 ⌝ }
     requires { ⌜ length (now roots) ≡ 128 ⌝ }
     ensures { λ r. ⌜ r ≡ rootSame s q (rootAt (now (roots .entry)) i) ⌝ }
 {
-    if matching::wide(roots[ROOT * i]) != s {
+    if roots[ROOT * i] != s {
         return false;
     }
-    matching::wide(roots[ROOT * i + 1]) == q
+    roots[ROOT * i + 1] == q
 }
 
 // Whether one of the n roots of a table is line q at site s.
-fn has_root(roots: &[u8; 128], n: usize, s: usize, q: usize) -> bool
+fn has_root(roots: &[u8; 128], n: usize, s: u8, q: u8) -> bool
     requires { ⌜ n ≤ 64 ⌝ }
     requires { ⌜ length (now roots) ≡ 128 ⌝ }
     ensures { λ r. ⌜ r ≡ any (rootSame s q) (rootsView n (now (roots .entry))) ⌝ }
@@ -199,9 +173,7 @@ pub fn root_seen(roots: &[u8; 128], n: usize, row: RowData) -> bool
     requires { ⌜ n ≤ 64 ⌝ }
     ensures { λ r. ⌜ ((above : List Row) → All Kept above → rootsView n (now (roots .entry)) ≡ map rootOf (ofGroup groupL above) → r ≡ repeated above (rowData row)) ⌝ }
 {
-    let line = row.line;
-    let target = line.target;
-    let s = target.number as usize;
-    let q = row.own as usize;
+    let s = stores::site_of(row);
+    let q = stores::line_of(row);
     has_root(roots, n, s, q)
 }

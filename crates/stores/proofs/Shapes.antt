@@ -35,7 +35,7 @@ within R h =
     let s = and-r _ _ v in
     record { boxes-low = and-l _ _ b; vars-low = and-l _ _ v; sites-low = and-l _ _ s; lines-low = and-r _ _ s }
 
--- the first number of a list, and the second
+-- what the code's form of a row stands for
 row-of : (r : RowData) (R : Row) → (r .group ≡ 0 → ⊥) → rowView r ≡ some R → rowData r ≡ R
 row-of r R g v = let w = view-some r g in cc
 
@@ -48,12 +48,14 @@ pub record SizeRow (r : RowData) : Type 0 where
 -- an R or an E row
 pub record PairRow (r : RowData) : Type 0 where
   pub row-is : rowData r ≡ rowAs (r .group) (r .size) [] [] (r .line .target .number ∷ r .line .fields .a .number ∷ []) [] (r .rights)
+  pub some : 0 < r .rights
   pub from-low : r .line .target .number < 32
   pub to-low : r .line .fields .a .number < 32
 
 -- a D row: towards a site, or towards `self`
 pub record BoxRow (r : RowData) : Type 0 where
   pub row-is : rowData r ≡ rowAs (r .group) (r .size) (r .line .sandbox ∷ []) [] (sitesTo (r .line .target)) [] (r .rights)
+  pub some : 0 < r .rights
   pub box-low : r .line .sandbox < 32
   pub to-low : r .line .target .kind ≡ 1 → r .line .target .number < 32
 
@@ -93,17 +95,19 @@ module _ (r : RowData) (G : rowGood r ≡ true) (L : inLimits (rowData r) ≡ tr
   pub pair-row : pairGroup (r .group) ≡ true → PairRow r
   pair-row p =
       let g = ltb-true 0 (r .group) (pair-some (r .group) p) in
-      let s = row-of r _ (λ z. omega arith) (view-pair r G p .0) in
+      let v = view-pair r G p in
+      let s = row-of r _ (λ z. omega arith) (v .0) in
       let l = rw s at (within (rowData r) L .sites-low) in
-      record { row-is = s; from-low = low-first 32 _ _ l; to-low = low-first 32 _ _ (low-rest 32 _ _ l) }
+      record { row-is = s; some = v .1; from-low = low-first 32 _ _ l; to-low = low-first 32 _ _ (low-rest 32 _ _ l) }
 
   pub box-row : r .group ≡ groupD → BoxRow r
   unfolding sitesTo only
   box-row e =
-      let s = row-of r _ (λ z. omega arith) (view-d r G e .0) in
+      let v = view-d r G e in
+      let s = row-of r _ (λ z. omega arith) (v .0) in
       let b = rw s at (within (rowData r) L .boxes-low) in
       let l = rw s at (within (rowData r) L .sites-low) in
-      record { row-is = s; box-low = low-first 32 _ _ b; to-low = λ k. low-first 32 _ _ (rw k at l) }
+      record { row-is = s; some = v .1; box-low = low-first 32 _ _ b; to-low = λ k. low-first 32 _ _ (rw k at l) }
 
   pub tuple-row : tupleGroup (r .group) ≡ true → TupleRow r
   unfolding all

@@ -3,9 +3,12 @@ use native.Mathlib.Omega.{arith}
 use Prim.Native.Nat.{_+_, _-_, _<_}
 use lib.ListN.{length}
 use mathlib.Core.Path.{refl}
+use Rattle.sets.specs.Lists.{either}
+use Rattle.forms.specs.Forms.{tupleGroup}
 use Rattle.estimates.proofs.Loop.{Reading, row-within, reading-start, reading-more, reading-bad, reading-end}
 use Rattle.estimates.proofs.read_estimate.Statement.{statement}
 use Rattle.estimates.proofs.read_estimate.Tie as tie
+use Rattle.estimates.proofs.Rows.{room-a}
 
 abbrev Inv-loop : tie.InvT-loop
 Inv-loop n s binds₀ stand₀ keys₀ hold₀ tally₀ at₀ binds stand keys hold tally at = Reading n s binds stand hold keys tally at
@@ -39,9 +42,11 @@ store-requires c κs =
     (c .before .before .before .before .before .before .before .before .before .row-at .ensures .1 .1, (c .before .before .before .before .row-number .ensures .1 (c .before .before .before .if1 .taken), (R .bindsLong, R .standLong, R .holdLong)))
 
 keep-key-requires : tie.Need-keep-key-requires Inv-loop μ-loop
+unfolding tupleGroup either
 keep-key-requires c κs =
     let R = c .before .before .before .before .before .before .before .before .before .before .before .before .before .loop .inv in
-    (c .before .before .before .before .before .before .before .before .before .before .before .row-at .ensures .1 .1, (c .before .before .before .before .before .before .row-number .ensures .1 (c .before .before .before .before .before .if1 .taken), R .keysLong))
+    let P = c .before .before .before .before .before .before .row-number .ensures .1 (c .before .before .before .before .before .if1 .taken) in
+    (c .before .before .before .before .before .before .before .before .before .before .before .row-at .ensures .1 .1, (P .low, ((P .some, refl), (λ e. room-a _ _ P e, R .keysLong))))
 
 counted-requires : tie.Need-counted-requires Inv-loop μ-loop
 counted-requires c κs =

@@ -3,8 +3,10 @@ use native.Mathlib.Omega.{arith}
 use Prim.Native.Nat.{_+_, _-_}
 use mathlib.Core.Path.{refl}
 use lib.ListN.{length}
+use Rattle.sets.specs.Lists.{either}
+use Rattle.forms.specs.Forms.{tupleGroup}
 use Rattle.scan.proofs.Progress.{row-within}
-use Rattle.nets.proofs.Rows.{room-same}
+use Rattle.nets.proofs.Rows.{room-same, room-t}
 use Rattle.nets.proofs.Loop.{Reading, reading-start, reading-more, reading-bad, reading-end}
 use Rattle.nets.proofs.read_net.Statement.{statement}
 use Rattle.nets.proofs.read_net.Tie as tie
@@ -31,9 +33,11 @@ store-requires : tie.Need-store-requires Inv-loop μ-loop
 store-requires c κs = let R = c .before .before .before .before .before .before .before .before .before .before .before .before .before .before .loop .inv in (c .before .before .before .before .before .before .before .before .before .before .before .before .row-at .ensures .1 .1, (c .before .before .before .before .before .before .row-number .ensures .1 (c .before .before .before .before .before .if1 .taken), (R .long .homesLong, R .long .boxesLong, R .long .tuplesLong, R .long .rootsLong, R .long .linesLong)))
 
 keep-key-requires : tie.Need-keep-key-requires Inv-loop μ-loop
+unfolding tupleGroup either
 keep-key-requires c κs =
     let R = c .before .before .before .before .before .before .before .before .before .before .before .before .before .before .before .before .loop .inv in
-    (c .before .before .before .before .before .before .before .before .before .before .before .before .before .before .row-at .ensures .1 .1, (c .before .before .before .before .before .before .before .before .row-number .ensures .1 (c .before .before .before .before .before .before .before .if1 .taken), R .long .keysLong))
+    let P = c .before .before .before .before .before .before .before .before .row-number .ensures .1 (c .before .before .before .before .before .before .before .if1 .taken) in
+    (c .before .before .before .before .before .before .before .before .before .before .before .before .before .before .row-at .ensures .1 .1, (P .low, ((P .some, refl), (λ e. room-t _ _ e (P .room), R .long .keysLong))))
 
 counted-requires : tie.Need-counted-requires Inv-loop μ-loop
 counted-requires c κs = let R = c .before .before .before .before .before .before .before .before .before .before .before .before .before .before .before .before .before .loop .inv in let l = c .before .before .before .before .before .before .before .before .before .before .before .before .before .before .before .before .loop-test .taken in let m = R .room in (omega (arith, R .counted, l, c .before .before .before .before .before .before .before .before .before .before .before .before .before .before .before .before .before .before .before .before .good), (omega (arith, m .tuplesFew), omega (arith, m .rootsFew), omega (arith, m .linesFew)))
