@@ -19,7 +19,6 @@ use Rattle.writer.specs.Wrote.{Wrote}
 use Rattle.rows.proofs.Rows.{length-row}
 use Rattle.writer.proofs.Numeral.{numeral-short}
 use Rattle.klaim.specs.Rows.{text}
-use Rattle.parts.proofs.Parts.{before-most}
 use Rattle.usable.specs.Rights.{Rights}
 use Rattle.worlds.specs.declared.WorldRead.{WorldRead}
 use Rattle.worlds.specs.World.{worldView, worldAnswer}
@@ -110,9 +109,6 @@ take-short n input = omega (arith, length-take n input)
 
 pub behind-short : (from : ℕ) (input : List ℕ) → length (take (length input - from) (drop from input)) ≤ length input
 behind-short from input = omega (arith, length-take (length input - from) (drop from input), length-drop from input)
-
-pub part-count : (n : ℕ) (input : List ℕ) → n ≡ before true input → n ≡ length (take n input)
-part-count n input e = omega (arith, before-most input, length-take n input)
 
 -- what was written from the first byte on, where it fits
 pub fits-in : {a b xs : List ℕ} {next : ℕ} → Wrote a b 0 xs next → 0 + length xs ≤ 17006 → next ≤ 17006

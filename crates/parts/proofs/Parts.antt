@@ -7,7 +7,7 @@ use Prim.Native.Nat.{ℕ, suc, _+_, _-_, _<_, _≤_}
 use native.Mathlib.Omega.{arith}
 use native.Mathlib.Numerals.{add-one}
 use lib.Dec.{eqb}
-use lib.ListN.{length, take, drop, getD, length-drop, drop-of-length-le}
+use lib.ListN.{length, take, drop, getD, length-drop, drop-of-length-le, length-take}
 use lib.Seq.{drop-cons, drop-length}
 use borrow.Author.Tests.{ne-eqb}
 use Rattle.sets.specs.Lists.{_&_, either, same}
@@ -66,6 +66,10 @@ most start (b ∷ xs) = go (start & same (take 2 (b ∷ xs)) (46 ∷ 10 ∷ []))
 
 pub before-most : (xs : List ℕ) → before true xs ≤ length xs
 before-most xs = most true xs
+
+-- the bytes before it, counted
+pub front-long : (n : ℕ) (xs : List ℕ) → n ≡ before true xs → n ≡ length (take n xs)
+front-long n xs e = omega (arith, before-most xs, length-take n xs)
 
 -- where fewer than two bytes are left, the estimate is empty
 pub behind-none : (xs : List ℕ) (n : ℕ) → n ≡ before true xs → length xs - n < 2 → drop (length xs) xs ≡ estimatePart xs

@@ -34,14 +34,6 @@ pub accepted-short : (n : ℕ) → n < 10000 → length (row "accepted" (numeral
 unfolding text
 accepted-short n h = omega (arith, length-row "accepted" (numeral n ∷ []), numeral-short 3 n h)
 
-pub refused-short : (n r : ℕ) → n < 100 → r < 100000 → length (row "refused" (numeral n ∷ numeral r ∷ [])) ≤ 17
-unfolding text
-refused-short n r h k = omega (arith, length-row "refused" (numeral n ∷ numeral r ∷ []), numeral-short 1 n h, numeral-short 4 r k)
-
-pub broken-short : (k n : ℕ) → n < 1000 → length (row "broken" ((k ∷ []) ∷ numeral n ∷ [])) ≤ 13
-unfolding text
-broken-short k n h = omega (arith, length-row "broken" ((k ∷ []) ∷ numeral n ∷ []), numeral-short 2 n h)
-
 pub v-short : (s t m : ℕ) → s < 32 → t < 32 → length (row "V" (siteName s ∷ siteName t ∷ letters m ∷ [])) ≤ 16
 unfolding text
 v-short s t m h k = omega (arith, length-row "V" (siteName s ∷ siteName t ∷ letters m ∷ []), site-short s h, site-short t k, letters-short m)

@@ -1,6 +1,5 @@
 // Runs `scripts::run` on many cases from one standard input, framed as `frames` says: for each a row `case,K` and what its script prints.
-ghost use Prim.Native.Nat.{_<_, _≤_};
-ghost use lib.ListN.{length};
+ghost use Prim.Native.Nat.{_<_};
 
 // Room for all cases. A function of its own keeps the zeros out of what is to be proved of `main`.
 fn room() -> [u8; 2097152] {

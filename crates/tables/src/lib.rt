@@ -14,8 +14,6 @@ use klaim::Var;
 // The limits of document 01.
 pub const SITES: usize = 32;
 
-pub const VARIABLES: usize = 32;
-
 pub const SANDBOXES: usize = 32;
 
 pub const LINES: usize = 256;
@@ -27,17 +25,6 @@ pub const THREADS: usize = 64;
 pub const FIELDS: usize = 4;
 
 pub const REPORT: usize = 1024;
-
-// Bytes of a table: a pair of sites; a sandbox and a site or `self`; a tuple; a root; a line.
-pub const PAIRS: usize = 1024;
-
-pub const BOXES: usize = 1056;
-
-pub const TUPLE_BYTES: usize = 1536;
-
-pub const ROOT_BYTES: usize = 128;
-
-pub const LINE_BYTES: usize = 2560;
 
 // Bytes of a tuple, and of a root: its site, then its line.
 pub const TUPLE: usize = 6;

@@ -83,16 +83,6 @@ pub fn push(items: [Thread; 64], n: usize, th: Thread) -> [Thread; 64]
     r
 }
 
-// The list with another thread at place k.
-pub fn replace(items: [Thread; 64], n: usize, k: usize, th: Thread) -> [Thread; 64]
-    requires { ⌜ (k < n) × (n ≤ 64) ⌝ }
-    ensures { λ r. ⌜ threadsView n r ≡ splice k (threadView th ∷ []) (threadsView n items) ⌝ }
-{
-    let mut r = items;
-    r[k] = th;
-    r
-}
-
 // The list without the thread at place k: those behind move up.
 pub fn remove(items: [Thread; 64], n: usize, k: usize) -> [Thread; 64]
     requires { ⌜ (k < n) × (n ≤ 64) ⌝ }

@@ -23,7 +23,6 @@ use Rattle.klaim.specs.Engine.{value, bindAll, agrees}
 use Rattle.tables.specs.View.{LowLoc, LowSlot, slotOf, locOf, fieldBytes, rowAt}
 use Rattle.tables.proofs.Lines.{length-first, field-is}
 use Rattle.tables.proofs.Bytes.{row-long, row-get}
-use Rattle.matching.proofs.Laws.{row-get}
 use Rattle.threads.specs.View.{rebound}
 use Rattle.tuples.specs.Slots.{bindSlot}
 
@@ -93,7 +92,7 @@ module _ {bs rows : List ℕ} {q k m : ℕ} (w : Held bs rows q k m) where
   row-from : (j : ℕ) → j < suc k → drop j (rowAt rows m) ≡ getD rows (6 * m + 1 + j) 0 ∷ drop (suc j) (rowAt rows m)
   row-from j h =
       drop-cons (rowAt rows m) j 0 (omega (arith, w .same-long))
-      ∙ ap (λ (v : ℕ). v ∷ drop (suc j) (rowAt rows m)) (row-get rows m j (w .low) (w .long) (omega (arith, w .same-long)))
+      ∙ ap (λ (v : ℕ). v ∷ drop (suc j) (rowAt rows m)) (row-get rows m (omega (arith, w .low, w .long)) j (omega (arith, w .same-long)))
 
   pub bind-from : (j : ℕ) (e : Bindings) (i at : ℕ) → j < k → suc j ≡ i → 6 * m + 1 + suc j ≡ at → bindAll (drop j (Slots bs q k)) (drop (suc j) (rowAt rows m)) e ≡ bindAll (drop i (Slots bs q k)) (drop (suc i) (rowAt rows m)) (bindSlot (slotOf (getD (fieldBytes bs q) j 0)) (getD rows at 0) e)
   bind-from j e i at h p r =

@@ -1,6 +1,6 @@
 //! Tuples in their table, and a line's template held against one for a thread.
 ghost use mathlib.Core.Path.{_≡_};
-ghost use mathlib.Core.List.{_++_, _∷_, [], map};
+ghost use mathlib.Core.List.{_∷_, [], map};
 ghost use Prim.Native.Nat.{suc, _+_, _-_, _<_, _≤_};
 ghost use lib.Dec.{eqb};
 ghost use lib.ListN.{length, take};

@@ -64,12 +64,6 @@ wrote-then {a} {b} {c} {at} {next} {last} {xs} {ys} w v = record {
 pub wrote-as : {a b : List ℕ} {at next : ℕ} {xs ys : List ℕ} → xs ≡ ys → Wrote a b at xs next → Wrote a b at ys next
 wrote-as {a} {b} {at} {next} e w = subst (λ (l : List ℕ). Wrote a b at l next) e w
 
--- from the start on: what stands before the place behind
-pub wrote-front : {a b : List ℕ} {next : ℕ} {xs : List ℕ} → Wrote a b 0 xs next → take next b ≡ xs
-wrote-front {a} {b} {next} {xs} w =
-    let e : length xs ≡ next = omega (arith, w .ends) in
-    rw (w .is) (take-at xs (drop (0 + length xs) a) next e)
-
 -- a turn of the loop that copies a text
 pub wrote-more : {a b : List ℕ} {at : ℕ} (t : List ℕ) (i : ℕ) → i < length t → at + length t ≤ length a → Wrote a b at (take i t) (at + i) → Wrote a (set b (at + i) (getD t i 0)) at (take (i + 1) t) (at + (i + 1))
 wrote-more {a} {b} {at} t i h room w = wrote-as bytes (wrote-next (omega arith) (wrote-then w (wrote-byte b (at + i) (getD t i 0) (omega (arith, wrote-long w)))))

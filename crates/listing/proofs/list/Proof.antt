@@ -1,7 +1,8 @@
 use borrow.Author.Needs.{needs}
+use Rattle.parts.proofs.Parts.{front-long}
 use Rattle.writer.proofs.Wrote.{wrote-as}
 use Rattle.checker.proofs.Laws.{sound}
-use Rattle.listing.proofs.Reading.{list-long, list-parts, row-low, part-net, part-estimate, take-short, behind-short, part-count}
+use Rattle.listing.proofs.Reading.{list-long, list-parts, row-low, part-net, part-estimate, take-short, behind-short}
 use Rattle.listing.proofs.list.Statement.{statement}
 use Rattle.listing.proofs.list.Tie as tie
 
@@ -18,7 +19,7 @@ behind-requires : tie.Need-behind-requires
 behind-requires c κs = search needs
 
 slice-aggregate-read-both : tie.Need-slice-aggregate-read-both
-slice-aggregate-read-both c = part-count _ _ (c .before .before .before2 .ensures)
+slice-aggregate-read-both c = front-long _ _ (c .before .before .before2 .ensures)
 
 sub-read-both : tie.Need-sub-read-both
 sub-read-both c = search needs
