@@ -1,14 +1,14 @@
 -- Bounds of the counts: how many rights are reported, held and used at most.
 -- Assumes nothing.
-use mathlib.Core.Path.{_≡_, ap}
+use mathlib.Core.Path.{_≡_, ap, refl, _∙_}
 use mathlib.Core.Bool.{Bool, true, false}
 use mathlib.Core.List.{List}
-use Prim.Native.Nat.{ℕ, _+_, _^_, _≤_}
+use Prim.Native.Nat.{ℕ, _+_, _^_, _≤_, zero, suc, _<_}
 use native.Mathlib.Omega.{arith}
-use lib.ListN.{length, getD}
+use lib.ListN.{length, getD, replicate, getD-replicate}
 use Rattle.sets.specs.Lists.{_&_, only, keep, sum, below, table}
-use Rattle.sets.specs.Bits.{has, meet, size}
-use Rattle.sets.proofs.Lists.{length-union}
+use Rattle.sets.specs.Bits.{has, meet, size, everyRight}
+use Rattle.sets.proofs.Lists.{length-union, and-true}
 use Rattle.sets.proofs.Tables.{length-table, getD-table}
 use Rattle.sets.proofs.Bits.{has-and}
 use Rattle.sets.proofs.Runs.{sum-most, sum-within, sum-same}
@@ -36,6 +36,26 @@ less a b n = rw (has-and a b n) (fewer (has a (2 ^ n)) (has b (2 ^ n)) (2 ^ n))
 
 pub size-meet : (a b : ℕ) → size (meet a b) ≤ size a
 size-meet a b = omega (arith, parts a, parts (meet a b), less a b 0, less a b 1, less a b 2, less a b 3, less a b 4)
+
+-- every right is one of the five
+every-has : (n : ℕ) → n < 5 → has everyRight (2 ^ n) ≡ true
+unfolding has
+every-has zero h = refl
+every-has (suc zero) h = refl
+every-has (suc (suc zero)) h = refl
+every-has (suc (suc (suc zero))) h = refl
+every-has (suc (suc (suc (suc zero)))) h = refl
+every-has (suc (suc (suc (suc (suc n))))) h = absurd (omega arith)
+
+every-one : (a n : ℕ) → n < 5 → one (meet a everyRight) (2 ^ n) ≡ one a (2 ^ n)
+every-one a n h = rw (has-and a everyRight n, every-has n h, and-true (has a (2 ^ n)))
+
+size-every : (a : ℕ) → size (meet a everyRight) ≡ size a
+size-every a = omega (arith, parts a, parts (meet a everyRight), every-one a 0 (omega arith), every-one a 1 (omega arith), every-one a 2 (omega arith), every-one a 3 (omega arith), every-one a 4 (omega arith))
+
+pub home-every : (N : Net) (s : ℕ) → sum (λ t. size (meet (home N s t) (getD (replicate 32 everyRight) t 0))) (below 32) ≡ homeCount N s
+unfolding homeCount
+home-every N s = sum-same _ _ 32 (λ t h. ap (λ (m : ℕ). size (meet (home N s t) m)) (getD-replicate 32 t everyRight 0 h) ∙ size-every (home N s t))
 
 length-below : (n : ℕ) → length (below n) ≡ n
 unfolding below

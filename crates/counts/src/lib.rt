@@ -13,6 +13,9 @@ const SITES: usize = 32;
 
 const REPORT: usize = 1024;
 
+// All five rights.
+const EVERY: u8 = 31;
+
 // How many rights a set has.
 pub fn size_of(rights: u8) -> u32
     ensures { λ r. ⌜ r ≡ size rights ⌝ }
@@ -36,19 +39,27 @@ pub fn reported(report: &[u8; 1024]) -> u32
     count
 }
 
-// The rights in the home policy of a site.
-pub fn home_count(homes: &[u8; 1024], s: u8) -> u32
+// The rights in the home policy of a site that are usable.
+pub fn used_count(homes: &[u8; 1024], usable: [u8; 32], s: u8) -> u32
     requires { ⌜ (length (now homes) ≡ 1024) × (s < siteLimit) ⌝ }
-    ensures { λ r. ⌜ ((N : Net) → N .homes ≡ now (homes .entry) → r ≡ Listing.homeCount N s) ⌝ }
+    ensures { λ r. ⌜ ((N : Net) → N .homes ≡ now (homes .entry) → r ≡ sum (λ t. size (meet (home N s t) (getD usable t 0))) (below siteLimit)) ⌝ }
 {
     let first = SITES * s as usize;
     let mut count = 0;
     let mut t = 0;
     while t < SITES {
-        count += size_of(homes[first + t]);
+        count += size_of(homes[first + t] & usable[t]);
         t += 1;
     }
     count
+}
+
+// The rights in the home policy of a site: every right is usable.
+fn home_count(homes: &[u8; 1024], s: u8) -> u32
+    requires { ⌜ (length (now homes) ≡ 1024) × (s < siteLimit) ⌝ }
+    ensures { λ r. ⌜ ((N : Net) → N .homes ≡ now (homes .entry) → r ≡ Listing.homeCount N s) ⌝ }
+{
+    used_count(homes, [EVERY; 32], s)
 }
 
 // The same of every site.
@@ -63,21 +74,6 @@ pub fn home_counts(homes: &[u8; 1024]) -> [u32; 32]
         s += 1;
     }
     held
-}
-
-// Those of them that are usable.
-pub fn used_count(homes: &[u8; 1024], usable: [u8; 32], s: u8) -> u32
-    requires { ⌜ (length (now homes) ≡ 1024) × (s < siteLimit) ⌝ }
-    ensures { λ r. ⌜ ((N : Net) → N .homes ≡ now (homes .entry) → r ≡ sum (λ t. size (meet (home N s t) (getD usable t 0))) (below siteLimit)) ⌝ }
-{
-    let first = SITES * s as usize;
-    let mut count = 0;
-    let mut t = 0;
-    while t < SITES {
-        count += size_of(homes[first + t] & usable[t]);
-        t += 1;
-    }
-    count
 }
 
 // The share in thousandths, rounded down; of nothing, 0.
