@@ -10,7 +10,7 @@ use native.Mathlib.Decide.{ℕ-discrete}
 use native.Mathlib.Numerals.{add-one}
 use borrow.Author.Tests.{ne-eqb}
 use lib.ListN.{length, getD, getElem?, set, take, length-set, length-map}
-use lib.Seq.{getD-set-same, getD-set-other, ext-getD, take-suc-set, length-take-le, getD-take}
+use lib.Seq.{getD-set-same, getD-set-other, ext-getD, take-suc-set, take-set-lt, length-take-le, getD-take}
 use Rattle.sets.specs.Lists.{either, splice, table, tableFrom, _&_}
 use Rattle.sets.specs.Bits.{has, mem, join}
 use Rattle.sets.proofs.Lists.{eq-eqb, or-r, map-append}
@@ -26,7 +26,7 @@ use Rattle.klaim.specs.Engine.{value, under, permits}
 use Rattle.flow.proofs.Sites.{mem-single}
 use Rattle.threads.specs.declared.Thread.{Thread}
 use Rattle.threads.specs.View.{noSite, noThread, binding, bindingsView, threadView, threadsView}
-use Rattle.threads.proofs.Splice.{get-some, get-none, map-some, map-splice, moved-all}
+use Rattle.threads.proofs.Splice.{get-some, get-none, map-some, splice-set, map-splice, moved-all}
 
 pub bindings-long : (b : ℕ) (ss : List Site) → length (bindingsView b ss) ≡ 32
 unfolding bindingsView
@@ -102,13 +102,19 @@ thread-some n items k h l =
 pub thread-none : (n : ℕ) (items : List Thread) (k : ℕ) → n ≤ k → n ≤ length items → getElem? (threadsView n items) k ≡ none
 thread-none n items k h l = get-none (threadsView n items) k (omega (arith, threads-long n items l))
 
--- the list with a thread more
+-- the list with a thread more, or another
 module _ (items : List Thread) (n : ℕ) (th : Thread) where
   pub push-view : n < length items → threadsView (n + 1) (set items n th) ≡ threadsView n items ++ (threadView th ∷ [])
   unfolding threadsView
   push-view h =
       let e : take (n + 1) (set items n th) ≡ take n items ++ (th ∷ []) = rw add-one (take-suc-set items n th h) in
       ap (map threadView) e ∙ map-append threadView (take n items) (th ∷ [])
+
+  pub replace-view : (k : ℕ) → k < n → n ≤ length items → threadsView n (set items k th) ≡ splice k (threadView th ∷ []) (threadsView n items)
+  unfolding threadsView
+  replace-view k h l =
+      ap (map threadView) (take-set-lt n items k th h ∙ splice-set k th (take n items) (omega (arith, length-take-le n items l)))
+      ∙ map-splice threadView k (th ∷ []) (take n items)
 
 pub remove-view : {k n : ℕ} {l₀ l : List Thread} → Filled noThread (λ j. getD (splice k [] l₀) j noThread) l₀ l n → k ≤ n → n < length l₀ → (m : ℕ) → suc n ≡ m → threadsView n l ≡ splice k [] (threadsView m l₀)
 unfolding threadsView
