@@ -40,10 +40,12 @@ fn sound_sites<'a>(
     requires { ⌜ InForm n (now lines) q × (n ≤ 256) × (length (now lines) ≡ 2560) × Sized nstand (now stand) × (size ≤ 32) ⌝ }
     ensures { λ r. ⌜ ((N : Net) (E : Estimate) → N .boxes ≡ now (boxes .entry) → E .binds ≡ now (binds .entry) → E .hold ≡ now (hold .entry) → E .stand ≡ rowsView nstand (now (stand .entry)) → (l : ℕ) → l < size → mem l r ≡ soundOf N E l (tree (linesView n (now (lines .entry))) q)) ⌝ }
 {
+    let mut index = [0u64; 768];
+    matching::fill(&mut index, stand, nstand);
     let mut sites: u32 = 0;
     let mut l: u8 = 0;
     while l < size {
-        let here = door::sound(lines, n, boxes, binds, hold, stand, nstand, l, q);
+        let here = door::sound(lines, n, boxes, binds, hold, &index, l, q);
         sites = with_site(sites, l, here);
         l += 1;
     }

@@ -1,14 +1,13 @@
 //! The first line of a process whose rule is broken.
 ghost use mathlib.Core.Path.{_≡_};
 ghost use mathlib.Core.Bool.{cond};
-ghost use Prim.Native.Nat.{ℕ, _≤_, min};
+ghost use Prim.Native.Nat.{min};
 ghost use lib.ListN.{length};
 ghost use Rattle.klaim.specs.Process.{tree};
 ghost use Rattle.klaim.specs.Net.{Net, Estimate};
 ghost use Rattle.klaim.specs.Analysis.{broken};
-ghost use Rattle.tables.specs.View.{linesView, rowsView, InForm};
-ghost use Rattle.matching.specs.Index.{Backed};
-ghost use Rattle.rules.specs.Masks.{Sized};
+ghost use Rattle.tables.specs.View.{linesView, InForm};
+ghost use Rattle.rules.specs.Masks.{IndexOf};
 ghost use Rattle.broken.specs.Lowest.{lowest};
 use tables::Action;
 
@@ -39,36 +38,31 @@ pub fn first_broken(
     boxes: &[u8; 1056],
     binds: &[u32; 32],
     hold: &[u8; 1024],
-    rows: &[u8; 1536],
-    m: usize,
-    index: &[u64],
+    index: &[u64; 768],
     places: u32,
     q: u8,
 ) -> u16
     requires { ⌜ InForm n (now lines) q ⌝ }
     requires { ⌜ length (now lines) ≡ 2560 ⌝ }
-    requires { ⌜ Sized m (now rows) ⌝ }
-    requires { ⌜ Backed m (now rows) (now index) ⌝ }
-    ensures { λ r. ⌜ ((N : Net) (E : Estimate) → N .boxes ≡ now (boxes .entry) → E .binds ≡ now (binds .entry) → E .hold ≡ now (hold .entry) → E .stand ≡ rowsView m (now (rows .entry)) → r ≡ lowest (broken N E places (tree (linesView n (now (lines .entry))) q))) ⌝ }
+    requires { ⌜ length (now index) ≡ 768 ⌝ }
+    ensures { λ r. ⌜ ((N : Net) (E : Estimate) → N .boxes ≡ now (boxes .entry) → E .binds ≡ now (binds .entry) → E .hold ≡ now (hold .entry) → IndexOf E (now (index .entry)) → r ≡ lowest (broken N E places (tree (linesView n (now (lines .entry))) q))) ⌝ }
 {
     let action = tables::action_at(lines, q);
     match action {
         Action::Nil => NONE,
         Action::Par { next, second } => {
-            let a = first_broken(lines, n, boxes, binds, hold, rows, m, index, places, next);
-            let b = first_broken(lines, n, boxes, binds, hold, rows, m, index, places, second);
+            let a = first_broken(lines, n, boxes, binds, hold, index, places, next);
+            let b = first_broken(lines, n, boxes, binds, hold, index, places, second);
             lesser(a, b)
         }
-        Action::Rep { next } => {
-            first_broken(lines, n, boxes, binds, hold, rows, m, index, places, next)
-        }
+        Action::Rep { next } => { first_broken(lines, n, boxes, binds, hold, index, places, next) }
         Action::Out {
             next,
             target,
             count,
         } => {
-            let rest = first_broken(lines, n, boxes, binds, hold, rows, m, index, places, next);
-            let ok = rules::out_rule(lines, q, count, target, places, binds, rows, m, index);
+            let rest = first_broken(lines, n, boxes, binds, hold, index, places, next);
+            let ok = rules::out_rule(lines, q, count, target, places, binds, index);
             or_here(ok, q, rest)
         }
         Action::In {
@@ -76,8 +70,8 @@ pub fn first_broken(
             target,
             count,
         } => {
-            let rest = first_broken(lines, n, boxes, binds, hold, rows, m, index, places, next);
-            let ok = rules::get_rule(lines, q, count, target, places, binds, rows, m, index);
+            let rest = first_broken(lines, n, boxes, binds, hold, index, places, next);
+            let ok = rules::get_rule(lines, q, count, target, places, binds, index);
             or_here(ok, q, rest)
         }
         Action::Read {
@@ -85,8 +79,8 @@ pub fn first_broken(
             target,
             count,
         } => {
-            let rest = first_broken(lines, n, boxes, binds, hold, rows, m, index, places, next);
-            let ok = rules::get_rule(lines, q, count, target, places, binds, rows, m, index);
+            let rest = first_broken(lines, n, boxes, binds, hold, index, places, next);
+            let ok = rules::get_rule(lines, q, count, target, places, binds, index);
             or_here(ok, q, rest)
         }
         Action::Eval {
@@ -96,56 +90,13 @@ pub fn first_broken(
             sandbox,
         } => {
             let set = flow::reach(target, places, binds);
-            let b = first_broken(lines, n, boxes, binds, hold, rows, m, index, set, body);
-            let a = first_broken(lines, n, boxes, binds, hold, rows, m, index, places, next);
+            let b = first_broken(lines, n, boxes, binds, hold, index, set, body);
+            let a = first_broken(lines, n, boxes, binds, hold, index, places, next);
             let ok = rules::eval_rule(boxes, hold, set, sandbox);
             or_here(ok, q, lesser(b, a))
         }
         Action::Accept { next, sandbox: _ } => {
-            first_broken(lines, n, boxes, binds, hold, rows, m, index, places, next)
+            first_broken(lines, n, boxes, binds, hold, index, places, next)
         }
-    }
-}
-
-// What is left of `left` once each out, in and read line of the process of line q has taken one. 256 less q falls.
-pub fn unasked(lines: &[u8; 2560], n: usize, q: u8, left: u8) -> u8
-    requires { ⌜ InForm n (now lines) q ⌝ }
-{
-    if left == 0 {
-        return 0;
-    }
-    let action = tables::action_at(lines, q);
-    match action {
-        Action::Nil => left,
-        Action::Par { next, second } => {
-            let rest = unasked(lines, n, next, left);
-            unasked(lines, n, second, rest)
-        }
-        Action::Rep { next } => unasked(lines, n, next, left),
-        Action::Out {
-            next,
-            target: _,
-            count: _,
-        } => unasked(lines, n, next, left - 1),
-        Action::In {
-            next,
-            target: _,
-            count: _,
-        } => unasked(lines, n, next, left - 1),
-        Action::Read {
-            next,
-            target: _,
-            count: _,
-        } => unasked(lines, n, next, left - 1),
-        Action::Eval {
-            next,
-            target: _,
-            body,
-            sandbox: _,
-        } => {
-            let rest = unasked(lines, n, next, left);
-            unasked(lines, n, body, rest)
-        }
-        Action::Accept { next, sandbox: _ } => unasked(lines, n, next, left),
     }
 }

@@ -23,7 +23,7 @@ use Rattle.klaim.specs.Analysis.{choices}
 use Rattle.klaim.specs.Invariant.{allBelow, distinct}
 use Rattle.klaim.proofs.Choices.{fits, product}
 use Rattle.tables.specs.View.{rowAt, rowsView}
-use Rattle.matching.specs.Index.{keyOf, inRows, inIndex, Indexed, Entered, Low}
+use Rattle.matching.specs.Index.{inColumn, inRows, inIndex, Indexed, Entered, Low}
 use Rattle.matching.proofs.Laws.{count-rule, only-long, keep-more, keep-none, Sets, sets-long, fits-long, fits-end, fits-at, row-get, among-low}
 
 -- a bit that the other number lacks
@@ -146,13 +146,13 @@ eqb-i {p} {q} e = ap (eqb p) (sym e) ∙ eq-eqb p
 -- no column is entered yet
 pub entered-none : (bs : List ℕ) (i : ℕ) (s : List ℕ) → Entered bs i 0 s s
 unfolding either _&_
-entered-none bs i s = record { long = refl; tells = λ c v k _ _ _. sym (ap (λ (b : Bool). either (b & (eqb k i & eqb (keyOf bs c i) v)) (inIndex s c v k)) (untrue (λ t. none c (ltb-lt c 0 t)))) }
+entered-none bs i s = record { long = refl; tells = λ c v k _ _ _. sym (ap (λ (b : Bool). either (b & (eqb k i & eqb (inColumn bs c i) v)) (inIndex s c v k)) (untrue (λ t. none c (ltb-lt c 0 t)))) }
   where
     none : (c : ℕ) → c < 0 → ⊥
     none c h = omega arith
 
 -- one column more
-module _ (bs : List ℕ) (i j at bit : ℕ) (s t : List ℕ) (low : i < 256) (cell : at ≡ 128 * j + 4 * keyOf bs j i + i / 64) (key : keyOf bs j i < 32) (col : j < 6) (one : bit ≡ 2 ^ (i % 64)) (long : length s ≡ 768) (E : Entered bs i j s t) where
+module _ (bs : List ℕ) (i j at bit : ℕ) (s t : List ℕ) (low : i < 256) (cell : at ≡ 128 * j + 4 * inColumn bs j i + i / 64) (key : inColumn bs j i < 32) (col : j < 6) (one : bit ≡ 2 ^ (i % 64)) (long : length s ≡ 768) (E : Entered bs i j s t) where
   bit-here : (c v k : ℕ) → 128 * c + 4 * v + k / 64 ≡ at → mem (k % 64) (getD (set t at (bitOr (getD t at 0) bit)) (128 * c + 4 * v + k / 64) 0) ≡ either (inIndex t c v k) (eqb (k % 64) (i % 64))
   unfolding join inIndex
   bit-here c v k e =
@@ -163,46 +163,46 @@ module _ (bs : List ℕ) (i j at bit : ℕ) (s t : List ℕ) (low : i < 256) (ce
       ∙ ap (either (mem (k % 64) (getD t at 0))) (mem-one (k % 64) (i % 64))
       ∙ ap (λ (x : ℕ). either (mem (k % 64) (getD t x 0)) (eqb (k % 64) (i % 64))) (sym e)
 
-  more-here : (c v k : ℕ) → c < 6 → v < 32 → k < 256 → 128 * c + 4 * v + k / 64 ≡ at → either (inIndex t c v k) (eqb (k % 64) (i % 64)) ≡ either (ltb c (j + 1) & (eqb k i & eqb (keyOf bs c i) v)) (inIndex s c v k)
+  more-here : (c v k : ℕ) → c < 6 → v < 32 → k < 256 → 128 * c + 4 * v + k / 64 ≡ at → either (inIndex t c v k) (eqb (k % 64) (i % 64)) ≡ either (ltb c (j + 1) & (eqb k i & eqb (inColumn bs c i) v)) (inIndex s c v k)
   more-here c v k hc hv hk e = iff (λ z. to (or-case _ _ z)) (λ z. from (or-case _ _ z))
     where
       same-col : c ≡ j
       same-col = omega arith
 
-      same-key : keyOf bs c i ≡ v
-      same-key = ap (λ (x : ℕ). keyOf bs x i) same-col ∙ omega arith
+      same-key : inColumn bs c i ≡ v
+      same-key = ap (λ (x : ℕ). inColumn bs x i) same-col ∙ omega arith
 
       old : (inIndex t c v k ≡ true) → inIndex s c v k ≡ true
       old z = go (or-case _ _ (sym (E .tells c v k hc hv hk) ∙ z))
         where
-          go : (ltb c j & (eqb k i & eqb (keyOf bs c i) v) ≡ true) ⊎ (inIndex s c v k ≡ true) → inIndex s c v k ≡ true
+          go : (ltb c j & (eqb k i & eqb (inColumn bs c i) v) ≡ true) ⊎ (inIndex s c v k ≡ true) → inIndex s c v k ≡ true
           go (inl q) = absurd (omega (arith, same-col, ltb-lt c j (and-l _ _ q)))
           go (inr q) = q
 
-      to : (inIndex t c v k ≡ true) ⊎ (eqb (k % 64) (i % 64) ≡ true) → either (ltb c (j + 1) & (eqb k i & eqb (keyOf bs c i) v)) (inIndex s c v k) ≡ true
+      to : (inIndex t c v k ≡ true) ⊎ (eqb (k % 64) (i % 64) ≡ true) → either (ltb c (j + 1) & (eqb k i & eqb (inColumn bs c i) v)) (inIndex s c v k) ≡ true
       to (inl q) = or-r _ _ (old q)
       to (inr q) =
           let m : k % 64 ≡ i % 64 = eqb-eq q in
           let e : k ≡ i = omega arith in
           or-l _ _ (and-i (lt-ltb c (j + 1) (omega (arith, same-col))) (and-i (eqb-i e) (eqb-i same-key)))
 
-      from : (ltb c (j + 1) & (eqb k i & eqb (keyOf bs c i) v) ≡ true) ⊎ (inIndex s c v k ≡ true) → either (inIndex t c v k) (eqb (k % 64) (i % 64)) ≡ true
+      from : (ltb c (j + 1) & (eqb k i & eqb (inColumn bs c i) v) ≡ true) ⊎ (inIndex s c v k ≡ true) → either (inIndex t c v k) (eqb (k % 64) (i % 64)) ≡ true
       from (inl q) = let e : k ≡ i = eqb-eq (and-l _ _ (and-r _ _ q)) in or-r _ _ (eqb-i (ap (λ (x : ℕ). x % 64) e))
       from (inr q) = or-l _ _ (E .tells c v k hc hv hk ∙ or-r _ _ q)
 
-  more-there : (c v k : ℕ) → c < 6 → v < 32 → k < 256 → (128 * c + 4 * v + k / 64 ≡ at → ⊥) → inIndex t c v k ≡ either (ltb c (j + 1) & (eqb k i & eqb (keyOf bs c i) v)) (inIndex s c v k)
+  more-there : (c v k : ℕ) → c < 6 → v < 32 → k < 256 → (128 * c + 4 * v + k / 64 ≡ at → ⊥) → inIndex t c v k ≡ either (ltb c (j + 1) & (eqb k i & eqb (inColumn bs c i) v)) (inIndex s c v k)
   more-there c v k hc hv hk h = E .tells c v k hc hv hk ∙ ap (λ (b : Bool). either b (inIndex s c v k)) (iff to from)
     where
-      to : ltb c j & (eqb k i & eqb (keyOf bs c i) v) ≡ true → ltb c (j + 1) & (eqb k i & eqb (keyOf bs c i) v) ≡ true
+      to : ltb c j & (eqb k i & eqb (inColumn bs c i) v) ≡ true → ltb c (j + 1) & (eqb k i & eqb (inColumn bs c i) v) ≡ true
       to z = let l = ltb-lt c j (and-l _ _ z) in and-i (lt-ltb c (j + 1) (omega arith)) (and-r _ _ z)
 
-      from : ltb c (j + 1) & (eqb k i & eqb (keyOf bs c i) v) ≡ true → ltb c j & (eqb k i & eqb (keyOf bs c i) v) ≡ true
+      from : ltb c (j + 1) & (eqb k i & eqb (inColumn bs c i) v) ≡ true → ltb c j & (eqb k i & eqb (inColumn bs c i) v) ≡ true
       from z = and-i (lt-ltb c j (go (ℕ-discrete c j))) (and-r _ _ z)
         where
           go : Dec (c ≡ j) → c < j
           go (yes e) =
-              let x : keyOf bs c i ≡ keyOf bs j i = ap (λ (x : ℕ). keyOf bs x i) e in
-              let y : keyOf bs c i ≡ v = eqb-eq (and-r _ _ (and-r _ _ z)) in
+              let x : inColumn bs c i ≡ inColumn bs j i = ap (λ (x : ℕ). inColumn bs x i) e in
+              let y : inColumn bs c i ≡ v = eqb-eq (and-r _ _ (and-r _ _ z)) in
               let w : k ≡ i = eqb-eq (and-l _ _ (and-r _ _ z)) in
               let u : k / 64 ≡ i / 64 = ap (λ (x : ℕ). x / 64) w in
               absurd (h (omega arith))
@@ -212,7 +212,7 @@ module _ (bs : List ℕ) (i j at bit : ℕ) (s t : List ℕ) (low : i < 256) (ce
   unfolding inIndex
   entered-more = record { long = length-set t at (bitOr (getD t at 0) bit) ∙ E .long; tells = λ c v k hc hv hk. go c v k hc hv hk (ℕ-discrete (128 * c + 4 * v + k / 64) at) }
     where
-      go : (c v k : ℕ) → c < 6 → v < 32 → k < 256 → Dec (128 * c + 4 * v + k / 64 ≡ at) → mem (k % 64) (getD (set t at (bitOr (getD t at 0) bit)) (128 * c + 4 * v + k / 64) 0) ≡ either (ltb c (j + 1) & (eqb k i & eqb (keyOf bs c i) v)) (inIndex s c v k)
+      go : (c v k : ℕ) → c < 6 → v < 32 → k < 256 → Dec (128 * c + 4 * v + k / 64 ≡ at) → mem (k % 64) (getD (set t at (bitOr (getD t at 0) bit)) (128 * c + 4 * v + k / 64) 0) ≡ either (ltb c (j + 1) & (eqb k i & eqb (inColumn bs c i) v)) (inIndex s c v k)
       go c v k hc hv hk (yes e) = bit-here c v k e ∙ more-here c v k hc hv hk e
       go c v k hc hv hk (no e) = ap (λ (x : ℕ). mem (k % 64) x) (getD-set-other t at (128 * c + 4 * v + k / 64) (bitOr (getD t at 0) bit) 0 e) ∙ more-there c v k hc hv hk e
 
@@ -221,29 +221,29 @@ pub indexed-none : (bs : List ℕ) → Indexed 0 bs (replicate 768 0)
 unfolding inIndex _&_
 indexed-none bs c v i hc hv hi =
     ap (λ (x : ℕ). mem (i % 64) x) (getD-replicate 768 (128 * c + 4 * v + i / 64) 0 0 (omega arith)) ∙ has-none (i % 64)
-    ∙ sym (ap (λ (b : Bool). b & eqb (keyOf bs c i) v) (untrue (λ t. none (ltb-lt i 0 t))))
+    ∙ sym (ap (λ (b : Bool). b & eqb (inColumn bs c i) v) (untrue (λ t. none (ltb-lt i 0 t))))
   where
     none : i < 0 → ⊥
     none h = omega arith
 
 pub indexed-more : (bs s t : List ℕ) (i m : ℕ) → i + 1 ≡ m → Indexed i bs s → Entered bs i 6 s t → Indexed m bs t
-indexed-more bs s t i m e I E c v k hc hv hk = E .tells c v k hc hv hk ∙ ap (either (ltb c 6 & (eqb k i & eqb (keyOf bs c i) v))) (I c v k hc hv hk) ∙ iff (λ z. to (or-case _ _ z)) (λ z. from z (ℕ-discrete k i))
+indexed-more bs s t i m e I E c v k hc hv hk = E .tells c v k hc hv hk ∙ ap (either (ltb c 6 & (eqb k i & eqb (inColumn bs c i) v))) (I c v k hc hv hk) ∙ iff (λ z. to (or-case _ _ z)) (λ z. from z (ℕ-discrete k i))
   where
-    to : (ltb c 6 & (eqb k i & eqb (keyOf bs c i) v) ≡ true) ⊎ (ltb k i & eqb (keyOf bs c k) v ≡ true) → ltb k m & eqb (keyOf bs c k) v ≡ true
-    to (inl q) = let w : k ≡ i = eqb-eq (and-l _ _ (and-r _ _ q)) in and-i (lt-ltb k m (omega arith)) (ap (λ (x : ℕ). eqb (keyOf bs c x) v) w ∙ and-r _ _ (and-r _ _ q))
+    to : (ltb c 6 & (eqb k i & eqb (inColumn bs c i) v) ≡ true) ⊎ (ltb k i & eqb (inColumn bs c k) v ≡ true) → ltb k m & eqb (inColumn bs c k) v ≡ true
+    to (inl q) = let w : k ≡ i = eqb-eq (and-l _ _ (and-r _ _ q)) in and-i (lt-ltb k m (omega arith)) (ap (λ (x : ℕ). eqb (inColumn bs c x) v) w ∙ and-r _ _ (and-r _ _ q))
     to (inr q) = let l = ltb-lt k i (and-l _ _ q) in and-i (lt-ltb k m (omega arith)) (and-r _ _ q)
 
-    from : ltb k m & eqb (keyOf bs c k) v ≡ true → Dec (k ≡ i) → either (ltb c 6 & (eqb k i & eqb (keyOf bs c i) v)) (ltb k i & eqb (keyOf bs c k) v) ≡ true
-    from q (yes w) = or-l _ _ (and-i (lt-ltb c 6 hc) (and-i (eqb-i w) (ap (λ (x : ℕ). eqb (keyOf bs c x) v) (sym w) ∙ and-r _ _ q)))
+    from : ltb k m & eqb (inColumn bs c k) v ≡ true → Dec (k ≡ i) → either (ltb c 6 & (eqb k i & eqb (inColumn bs c i) v)) (ltb k i & eqb (inColumn bs c k) v) ≡ true
+    from q (yes w) = or-l _ _ (and-i (lt-ltb c 6 hc) (and-i (eqb-i w) (ap (λ (x : ℕ). eqb (inColumn bs c x) v) (sym w) ∙ and-r _ _ q)))
     from q (no w) = let l = ltb-lt k m (and-l _ _ q) in or-r _ _ (and-i (lt-ltb k i (omega arith)) (and-r _ _ q))
 
 -- what a row has in a column
-pub key-first : (bs : List ℕ) (c i : ℕ) → c ≡ 0 → length (rowAt bs i) ≡ keyOf bs c i
-unfolding keyOf
+pub key-first : (bs : List ℕ) (c i : ℕ) → c ≡ 0 → length (rowAt bs i) ≡ inColumn bs c i
+unfolding inColumn
 key-first bs c i e = rw e
 
-pub key-later : (bs : List ℕ) (c i : ℕ) → (c ≡ 0 → ⊥) → getD bs (6 * i + c) 0 % 32 ≡ keyOf bs c i
-unfolding keyOf
+pub key-later : (bs : List ℕ) (c i : ℕ) → (c ≡ 0 → ⊥) → getD bs (6 * i + c) 0 % 32 ≡ inColumn bs c i
+unfolding inColumn
 key-later bs c i h = rw (untrue {b = eqb c 0} (λ t. h (eqb-eq t)))
 
 pub bit-one : (p : ℕ) → p < 64 → 1 * 2 ^ p % 18446744073709551616 ≡ 2 ^ p
@@ -397,7 +397,7 @@ and-swap false true = refl
 and-swap false false = refl
 
 -- in column j + 1 stands the site at place j
-row-key : (bs : List ℕ) (i j : ℕ) → i < 256 → length bs ≡ 1536 → allBelow 32 (rowAt bs i) ≡ true → j < length (rowAt bs i) → keyOf bs (j + 1) i ≡ getD (rowAt bs i) j 0
+row-key : (bs : List ℕ) (i j : ℕ) → i < 256 → length bs ≡ 1536 → allBelow 32 (rowAt bs i) ≡ true → j < length (rowAt bs i) → inColumn bs (j + 1) i ≡ getD (rowAt bs i) j 0
 row-key bs i j low long h l =
     sym (key-later bs (j + 1) i (λ z. none z))
     ∙ ap (λ (x : ℕ). getD bs x 0 % 32) there
@@ -427,22 +427,22 @@ module _ (ms bs : List ℕ) (n m i : ℕ) (low : i < 256) (five : length ms ≡ 
   site-low : (j : ℕ) → j < m → i < n → length (rowAt bs i) ≡ m → getD bs (6 * i + 1 + j) 0 < 32
   site-low j h l e = subst (λ (x : ℕ). x < 32) (row-get bs i j low (L .long) (omega (arith, e))) (row-low (rowAt bs i) j (row-sites l) (omega (arith, e)))
 
-  site-key : (j : ℕ) → j < m → i < n → length (rowAt bs i) ≡ m → keyOf bs (j + 1) i ≡ getD bs (6 * i + 1 + j) 0
+  site-key : (j : ℕ) → j < m → i < n → length (rowAt bs i) ≡ m → inColumn bs (j + 1) i ≡ getD bs (6 * i + 1 + j) 0
   site-key j h l e = row-key bs i j low (L .long) (row-sites l) (omega (arith, e)) ∙ row-get bs i j low (L .long) (omega (arith, e))
 
-  narrow-at : (j : ℕ) → j < m → i < n → length (rowAt bs i) ≡ m → (fits (drop (suc j) (Sets ms m)) (drop (suc j) (rowAt bs i)) & mem (keyOf bs (j + 1) i) (getD ms j 0)) ≡ fits (drop j (Sets ms m)) (drop j (rowAt bs i))
+  narrow-at : (j : ℕ) → j < m → i < n → length (rowAt bs i) ≡ m → (fits (drop (suc j) (Sets ms m)) (drop (suc j) (rowAt bs i)) & mem (inColumn bs (j + 1) i) (getD ms j 0)) ≡ fits (drop j (Sets ms m)) (drop j (rowAt bs i))
   narrow-at j h l e =
       ap (λ (x : ℕ). fits (drop (suc j) (Sets ms m)) (drop (suc j) (rowAt bs i)) & mem x (getD ms j 0)) (site-key j h l e)
       ∙ and-swap _ _
       ∙ ap (λ (b : Bool). b & fits (drop (suc j) (Sets ms m)) (drop (suc j) (rowAt bs i))) (among-low (getD ms j 0) _ (site-low j h l e))
       ∙ sym (fits-at ms bs m i j low (L .long) five most e h)
 
-  pub narrow-down : (j : ℕ) → 0 < j → j ≤ m → (a : Bool) → (a ≡ true → (i < n) × (length (rowAt bs i) ≡ m)) → ((a & fits (drop j (Sets ms m)) (drop j (rowAt bs i))) & mem (keyOf bs (j - 1 + 1) i) (getD ms (j - 1) 0)) ≡ (a & fits (drop (j - 1) (Sets ms m)) (drop (j - 1) (rowAt bs i)))
+  pub narrow-down : (j : ℕ) → 0 < j → j ≤ m → (a : Bool) → (a ≡ true → (i < n) × (length (rowAt bs i) ≡ m)) → ((a & fits (drop j (Sets ms m)) (drop j (rowAt bs i))) & mem (inColumn bs (j - 1 + 1) i) (getD ms (j - 1) 0)) ≡ (a & fits (drop (j - 1) (Sets ms m)) (drop (j - 1) (rowAt bs i)))
   unfolding _&_
-  narrow-down j p h true f = let back : j ≡ suc (j - 1) = omega arith in ap (λ (x : ℕ). fits (drop x (Sets ms m)) (drop x (rowAt bs i)) & mem (keyOf bs (j - 1 + 1) i) (getD ms (j - 1) 0)) back ∙ narrow-at (j - 1) (omega arith) (f refl .0) (f refl .1)
+  narrow-down j p h true f = let back : j ≡ suc (j - 1) = omega arith in ap (λ (x : ℕ). fits (drop x (Sets ms m)) (drop x (rowAt bs i)) & mem (inColumn bs (j - 1 + 1) i) (getD ms (j - 1) 0)) back ∙ narrow-at (j - 1) (omega arith) (f refl .0) (f refl .1)
   narrow-down j p h false f = refl
 
-pub key-low : (bs : List ℕ) (j i : ℕ) → keyOf bs (j + 1) i < 32
+pub key-low : (bs : List ℕ) (j i : ℕ) → inColumn bs (j + 1) i < 32
 key-low bs j i = subst (λ (x : ℕ). x < 32) (key-later bs (j + 1) i (λ z. none z)) (omega arith)
   where
     none : j + 1 ≡ 0 → ⊥
@@ -669,19 +669,19 @@ module _ (ts bs : List ℕ) (n m i k : ℕ) (here : i < 256) (long : length ts �
   alike-end true f = sym (same-end (rowAt ts i) (rowAt bs k) m (omega arith) (omega (arith, f refl .1)))
   alike-end false f = refl
 
-  alike-at : (j : ℕ) → j < m → k < n → length (rowAt bs k) ≡ m → (same (drop (suc j) (rowAt ts i)) (drop (suc j) (rowAt bs k)) & (ltb k n & eqb (keyOf bs (j + 1) k) (keyOf ts (j + 1) i))) ≡ same (drop j (rowAt ts i)) (drop j (rowAt bs k))
+  alike-at : (j : ℕ) → j < m → k < n → length (rowAt bs k) ≡ m → (same (drop (suc j) (rowAt ts i)) (drop (suc j) (rowAt bs k)) & (ltb k n & eqb (inColumn bs (j + 1) k) (inColumn ts (j + 1) i))) ≡ same (drop j (rowAt ts i)) (drop j (rowAt bs k))
   unfolding rowsView
   alike-at j h l e =
       and-swap _ _
       ∙ ap (λ (b : Bool). b & same (drop (suc j) (rowAt ts i)) (drop (suc j) (rowAt bs k))) (and-front (lt-ltb k n l) ∙ ap₂ eqb (row-key bs k j there (L .long) (table-all (allBelow 32) n (rowAt bs) (L .sites) k l) (omega (arith, e))) (row-key ts i j here long low (omega arith)) ∙ eqb-swap (getD (rowAt bs k) j 0) (getD (rowAt ts i) j 0))
       ∙ sym (same-from (rowAt ts i) (rowAt bs k) j (omega arith) (omega (arith, e)))
 
-  pub alike-down : (j : ℕ) → 0 < j → j ≤ m → (a : Bool) → (a ≡ true → (k < n) × (length (rowAt bs k) ≡ m)) → ((a & same (drop j (rowAt ts i)) (drop j (rowAt bs k))) & (ltb k n & eqb (keyOf bs j k) (keyOf ts j i))) ≡ (a & same (drop (j - 1) (rowAt ts i)) (drop (j - 1) (rowAt bs k)))
+  pub alike-down : (j : ℕ) → 0 < j → j ≤ m → (a : Bool) → (a ≡ true → (k < n) × (length (rowAt bs k) ≡ m)) → ((a & same (drop j (rowAt ts i)) (drop j (rowAt bs k))) & (ltb k n & eqb (inColumn bs j k) (inColumn ts j i))) ≡ (a & same (drop (j - 1) (rowAt ts i)) (drop (j - 1) (rowAt bs k)))
   unfolding _&_
   alike-down j p h true f =
       let back : j ≡ suc (j - 1) = omega arith in
       let col : j ≡ j - 1 + 1 = omega arith in
-      ap₂ (λ (x y : ℕ). same (drop x (rowAt ts i)) (drop x (rowAt bs k)) & (ltb k n & eqb (keyOf bs y k) (keyOf ts y i))) back col ∙ alike-at (j - 1) (omega arith) (f refl .0) (f refl .1)
+      ap₂ (λ (x y : ℕ). same (drop x (rowAt ts i)) (drop x (rowAt bs k)) & (ltb k n & eqb (inColumn bs y k) (inColumn ts y i))) back col ∙ alike-at (j - 1) (omega arith) (f refl .0) (f refl .1)
   alike-down j p h false f = refl
 
 same-long : (xs ys : List ℕ) → same xs ys ≡ true → length ys ≡ length xs

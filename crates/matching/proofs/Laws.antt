@@ -3,37 +3,29 @@
 use mathlib.Core.Path.{_≡_, refl, sym, ap, subst, _∙_}
 use mathlib.Core.Bool.{Bool, true, false, cond, false≢true}
 use mathlib.Core.List.{List, [], _∷_, map}
-use Prim.Native.Nat.{ℕ, zero, suc, _+_, _*_, _-_, _/_, _%_, _^_, _<_, _≤_, min}
+use Prim.Native.Nat.{ℕ, zero, suc, _+_, _*_, _-_, _<_, _≤_, min}
 use native.Mathlib.Omega.{arith}
-use native.Mathlib.Nat.{min-eq-left, min-eq-right, div-one}
-use native.Mathlib.Decide.{decLe, decLt}
+use native.Mathlib.Nat.{min-eq-left, min-eq-right}
+use native.Mathlib.Decide.{decLe}
 use lib.Dec.{eqb}
-use lib.ListN.{length, getD, take, drop, replicate, getD-replicate, length-take, length-drop, length-map, length-append, drop-of-length-le}
+use lib.ListN.{length, getD, take, drop, length-take, length-drop, length-map, length-append, drop-of-length-le}
 use lib.Seq.{drop-cons, getD-take, getD-drop}
-use Rattle.sets.specs.Lists.{All, done, more, _&_, imp, all, any, only, keep, among, tableFrom, table, same}
-use Rattle.sets.specs.Bits.{has, mem, sites, meet}
+use Rattle.sets.specs.Lists.{All, done, more, _&_, all, any, only, keep, among, tableFrom, table, same}
+use Rattle.sets.specs.Bits.{mem, sites}
 use Rattle.sets.proofs.Lists.{iff, and-r, among-in, any-i, eq-eqb, eqb-eq, keep-snoc}
 use Rattle.sets.proofs.Counting.{Unlike}
-use Rattle.sets.proofs.Tables.{Filled, length-table, getD-table, table-snoc, table-drop}
-use Rattle.sets.proofs.Bits.{has-and, sites-in, in-sites}
+use Rattle.sets.proofs.Tables.{length-table, getD-table, table-snoc, table-drop}
+use Rattle.sets.proofs.Bits.{sites-in, in-sites}
 use Rattle.klaim.specs.Invariant.{distinct}
 use Rattle.klaim.specs.Analysis.{choices}
 use Rattle.klaim.proofs.Choices.{fits, product, choices-count, sites-unlike}
 use Rattle.klaim.proofs.Choices as Choices
 use Rattle.tables.specs.View.{rowAt}
-use Rattle.matching.specs.Marks.{markOf, Asks, Asked, marksOf, Bytes}
 
 -- a site is in a set as the code tests it
 pub among-low : (m v : ℕ) → v < 32 → mem v m ≡ among (sites m) v
 unfolding among
 among-low m v h = iff (λ t. any-i (eqb v) (sites-in m v h t) (eq-eqb v)) (λ t. (in-sites m v (among-in (sites m) v t)) .1)
-
-pub among-high : (m v : ℕ) → 32 ≤ v → false ≡ among (sites m) v
-among-high m v h = go (among (sites m) v) refl
-  where
-    go : (b : Bool) → among (sites m) v ≡ b → false ≡ b
-    go true e = absurd (omega (arith, (in-sites m v (among-in (sites m) v e)) .0))
-    go false e = refl
 
 -- the sites of a row
 pub row-long : (bs : List ℕ) (i : ℕ) → i < 256 → length bs ≡ 1536 → length (rowAt bs i) ≡ min (getD bs (6 * i) 0) 5
@@ -58,14 +50,6 @@ fits-long [] [] t = refl
 fits-long [] (v ∷ vs) t = absurd (false≢true t)
 fits-long (xs ∷ xss) [] t = absurd (false≢true t)
 fits-long (xs ∷ xss) (v ∷ vs) t = ap suc (fits-long xss vs (and-r _ _ t))
-
--- a row with another number of sites does not fit
-pub fits-other : (xss : List (List ℕ)) (row : List ℕ) → (length row ≡ length xss → ⊥) → false ≡ fits xss row
-fits-other xss row h = go (fits xss row) refl
-  where
-    go : (b : Bool) → fits xss row ≡ b → false ≡ b
-    go true e = absurd (h (fits-long xss row e))
-    go false e = refl
 
 -- from place j on
 pub fits-from : (xss : List (List ℕ)) (row : List ℕ) (j : ℕ) → j < length xss → j < length row → fits (drop j xss) (drop j row) ≡ (among (getD xss j []) (getD row j 0) & fits (drop (suc j) xss) (drop (suc j) row))
@@ -160,16 +144,6 @@ count-rule ms m rows have need d h few e =
     to : have ≡ need → eqb have need ≡ true
     to q = subst (λ (x : ℕ). eqb have x ≡ true) q (eq-eqb have)
 
-pub and-both : {a b x y : Bool} → a ≡ x → b ≡ y → (a & b) ≡ (x & y)
-and-both e q = rw (e, q)
-
-pub imp-both : {a b x y : Bool} → a ≡ x → b ≡ y → imp a b ≡ imp x y
-imp-both e q = rw (e, q)
-
-pub imp-no : {a : Bool} (b : Bool) → a ≡ false → true ≡ imp a b
-unfolding imp
-imp-no b e = rw e
-
 -- a test of a table, from place i on
 module _ {A : Type 0} (f : A → Bool) (n : ℕ) (g : ℕ → A) where
   all-from : (i : ℕ) → i < n → all f (drop i (table n g)) ≡ (f (g i) & all f (drop (suc i) (table n g)))
@@ -194,129 +168,3 @@ module _ {A : Type 0} (f : A → Bool) (n : ℕ) (g : ℕ → A) where
   pub all-down : (i : ℕ) → 0 < i → i ≤ n → (f (g (i - 1)) & all f (drop i (table n g))) ≡ all f (drop (i - 1) (table n g))
   unfolding all
   all-down i p h = sym (ap (all f) (table-drop n g i p h))
-
-and-yes : (x : Bool) → x ≡ (x & true)
-unfolding _&_
-and-yes true = refl
-and-yes false = refl
-
--- marks
-pub mark-first : (a b : Bool) → has (markOf a b) (2 ^ 0) ≡ a
-unfolding has markOf
-mark-first true true = refl
-mark-first true false = refl
-mark-first false true = refl
-mark-first false false = refl
-
-pub mark-second : (a b : Bool) → has (markOf a b) (2 ^ 1) ≡ b
-unfolding has markOf
-mark-second true true = refl
-mark-second true false = refl
-mark-second false true = refl
-mark-second false false = refl
-
--- the two tests of a byte
-pub odd-first : (x y : ℕ) → x ≡ y → eqb (x % 2) 1 ≡ has y (2 ^ 0)
-unfolding has
-odd-first x y e = rw (e, div-one)
-
-pub odd-second : (x y : ℕ) → x ≡ y → eqb (x / 2 % 2) 1 ≡ has y (2 ^ 1)
-unfolding has
-odd-second x y e = rw e
-
-all-first : has 3 (2 ^ 0) ≡ true
-unfolding has
-all-first = refl
-
-all-second : has 3 (2 ^ 1) ≡ true
-unfolding has
-all-second = refl
-
-no-marks : {a b : Bool} → false ≡ a → false ≡ b → 0 ≡ markOf a b
-unfolding markOf
-no-marks p q = rw (← p, ← q)
-
--- the marks of two sets, as they are filled in
-pub marks-all : (w a : ℕ) (t : List ℕ) → Filled 0 (λ v. markOf (mem v w) (mem v a)) (replicate 256 0) t 32 → (v : ℕ) → v < 256 → getD t v 0 ≡ markOf (among (sites w) v) (among (sites a) v)
-marks-all w a t f v h = go (decLt v 32)
-  where
-    go : Dec (v < 32) → getD t v 0 ≡ markOf (among (sites w) v) (among (sites a) v)
-    go (yes l) = f .done v l ∙ ap (λ (x : Bool). markOf x (mem v a)) (among-low w v l) ∙ ap (λ (x : Bool). markOf (among (sites w) v) x) (among-low a v l)
-    go (no l) = f .rest v (omega arith) ∙ getD-replicate 256 v 0 0 h ∙ no-marks (among-high w v (omega arith)) (among-high a v (omega arith))
-
--- five bytes
-pub bytes-five : (bs : List ℕ) (i : ℕ) → getD bs (6 * i + 1) 0 < 256 → getD bs (6 * i + 2) 0 < 256 → getD bs (6 * i + 3) 0 < 256 → getD bs (6 * i + 4) 0 < 256 → getD bs (6 * i + 5) 0 < 256 → Bytes bs i
-bytes-five bs i a b c d e zero h = subst (λ (k : ℕ). getD bs k 0 < 256) (omega arith) a
-bytes-five bs i a b c d e (suc zero) h = subst (λ (k : ℕ). getD bs k 0 < 256) (omega arith) b
-bytes-five bs i a b c d e (suc (suc zero)) h = subst (λ (k : ℕ). getD bs k 0 < 256) (omega arith) c
-bytes-five bs i a b c d e (suc (suc (suc zero))) h = subst (λ (k : ℕ). getD bs k 0 < 256) (omega arith) d
-bytes-five bs i a b c d e (suc (suc (suc (suc zero)))) h = subst (λ (k : ℕ). getD bs k 0 < 256) (omega arith) e
-bytes-five bs i a b c d e (suc (suc (suc (suc (suc j))))) h = absurd (omega arith)
-
--- one place of row i: it is asked or not
-module _ (ms bs : List ℕ) (m i : ℕ) (low : i < 256) (long : length bs ≡ 1536) (five : length ms ≡ 5) (most : m ≤ 5) (same-long : length (rowAt bs i) ≡ m) where
-  fits-behind : (j : ℕ) → m ≤ j → fits (drop j (Sets ms m)) (drop j (rowAt bs i)) ≡ true
-  fits-behind j h = fits-end (Sets ms m) (rowAt bs i) j (omega (arith, sets-long ms m most five)) (omega (arith, same-long))
-
-  fits-step : (j : ℕ) {x : Bool} (k : ℕ) → 6 * i + 1 + j ≡ k → (j < m → x ≡ among (sites (getD ms j 0)) (getD bs k 0)) → (m ≤ j → x ≡ true) → (x & fits (drop (suc j) (Sets ms m)) (drop (suc j) (rowAt bs i))) ≡ fits (drop j (Sets ms m)) (drop j (rowAt bs i))
-  unfolding _&_
-  fits-step j {x} k e f g = go (decLt j m)
-    where
-      go : Dec (j < m) → (x & fits (drop (suc j) (Sets ms m)) (drop (suc j) (rowAt bs i))) ≡ fits (drop j (Sets ms m)) (drop j (rowAt bs i))
-      go (yes h) = ap (λ (b : Bool). b & fits (drop (suc j) (Sets ms m)) (drop (suc j) (rowAt bs i))) (f h ∙ ap (λ (k : ℕ). among (sites (getD ms j 0)) (getD bs k 0)) (sym e)) ∙ sym (fits-at ms bs m i j low long five most same-long h)
-      go (no h) = ap (λ (b : Bool). b & fits (drop (suc j) (Sets ms m)) (drop (suc j) (rowAt bs i))) (g (omega arith)) ∙ fits-behind (suc j) (omega arith) ∙ sym (fits-behind j (omega arith))
-
-  -- five places
-  fits-five : {a b c d e : Bool}
-      → (0 < m → a ≡ among (sites (getD ms 0 0)) (getD bs (6 * i + 1) 0)) → (m ≤ 0 → a ≡ true)
-      → (1 < m → b ≡ among (sites (getD ms 1 0)) (getD bs (6 * i + 2) 0)) → (m ≤ 1 → b ≡ true)
-      → (2 < m → c ≡ among (sites (getD ms 2 0)) (getD bs (6 * i + 3) 0)) → (m ≤ 2 → c ≡ true)
-      → (3 < m → d ≡ among (sites (getD ms 3 0)) (getD bs (6 * i + 4) 0)) → (m ≤ 3 → d ≡ true)
-      → (4 < m → e ≡ among (sites (getD ms 4 0)) (getD bs (6 * i + 5) 0)) → (m ≤ 4 → e ≡ true)
-      → (a & (b & (c & (d & e)))) ≡ fits (Sets ms m) (rowAt bs i)
-  fits-five {a} {b} {c} {d} {e} a1 a2 b1 b2 c1 c2 d1 d2 e1 e2 =
-      ap (λ (x : Bool). a & (b & (c & (d & x)))) (and-yes e ∙ ap (λ (x : Bool). e & x) (sym (fits-behind 5 most)) ∙ fits-step 4 (6 * i + 5) (omega arith) e1 e2)
-      ∙ ap (λ (x : Bool). a & (b & (c & x))) (fits-step 3 (6 * i + 4) (omega arith) d1 d2)
-      ∙ ap (λ (x : Bool). a & (b & x)) (fits-step 2 (6 * i + 3) (omega arith) c1 c2)
-      ∙ ap (λ (x : Bool). a & x) (fits-step 1 (6 * i + 2) (omega arith) b1 b2)
-      ∙ fits-step 0 (6 * i + 1) (omega arith) a1 a2
-
--- the marks that five tables have in common
-has-five : (p q r s t n : ℕ) → has (meet p (meet q (meet r (meet s t)))) (2 ^ n) ≡ (has p (2 ^ n) & (has q (2 ^ n) & (has r (2 ^ n) & (has s (2 ^ n) & has t (2 ^ n)))))
-has-five p q r s t n = rw (has-and, has-and, has-and, has-and)
-
-module _ (want allow bs : List ℕ) (m i : ℕ) {a b c d e : List ℕ} (asked : Asked want allow m a b c d e) (bytes : Bytes bs i) where
-  first-here : (j : ℕ) {t : List ℕ} → Asks want allow m j t → j < 5 → (k : ℕ) → 6 * i + 1 + j ≡ k → j < m → has (getD t (getD bs k 0) 0) (2 ^ 0) ≡ among (sites (getD want j 0)) (getD bs k 0)
-  first-here j {t} w l k e h = ap (λ (x : ℕ). has x (2 ^ 0)) (w .here h (getD bs k 0) (subst (λ (k : ℕ). getD bs k 0 < 256) e (bytes j l))) ∙ mark-first _ _
-
-  second-here : (j : ℕ) {t : List ℕ} → Asks want allow m j t → j < 5 → (k : ℕ) → 6 * i + 1 + j ≡ k → j < m → has (getD t (getD bs k 0) 0) (2 ^ 1) ≡ among (sites (getD allow j 0)) (getD bs k 0)
-  second-here j {t} w l k e h = ap (λ (x : ℕ). has x (2 ^ 1)) (w .here h (getD bs k 0) (subst (λ (k : ℕ). getD bs k 0 < 256) e (bytes j l))) ∙ mark-second _ _
-
-  first-behind : (j : ℕ) {t : List ℕ} → Asks want allow m j t → j < 5 → (k : ℕ) → 6 * i + 1 + j ≡ k → m ≤ j → has (getD t (getD bs k 0) 0) (2 ^ 0) ≡ true
-  first-behind j {t} w l k e h = ap (λ (x : ℕ). has x (2 ^ 0)) (w .behind h (getD bs k 0) (subst (λ (k : ℕ). getD bs k 0 < 256) e (bytes j l))) ∙ all-first
-
-  second-behind : (j : ℕ) {t : List ℕ} → Asks want allow m j t → j < 5 → (k : ℕ) → 6 * i + 1 + j ≡ k → m ≤ j → has (getD t (getD bs k 0) 0) (2 ^ 1) ≡ true
-  second-behind j {t} w l k e h = ap (λ (x : ℕ). has x (2 ^ 1)) (w .behind h (getD bs k 0) (subst (λ (k : ℕ). getD bs k 0 < 256) e (bytes j l))) ∙ all-second
-
-  module _ (low : i < 256) (long : length bs ≡ 1536) (most : m ≤ 5) (same-long : length (rowAt bs i) ≡ m) where
-    pub marks-want : length want ≡ 5 → has (marksOf bs i a b c d e) (2 ^ 0) ≡ fits (Sets want m) (rowAt bs i)
-    unfolding marksOf
-    marks-want five =
-        has-five _ _ _ _ _ 0
-        ∙ fits-five want bs m i low long five most same-long
-        (first-here 0 (asked .one) (omega arith) _ (omega arith)) (first-behind 0 (asked .one) (omega arith) _ (omega arith))
-        (first-here 1 (asked .two) (omega arith) _ (omega arith)) (first-behind 1 (asked .two) (omega arith) _ (omega arith))
-        (first-here 2 (asked .three) (omega arith) _ (omega arith)) (first-behind 2 (asked .three) (omega arith) _ (omega arith))
-        (first-here 3 (asked .four) (omega arith) _ (omega arith)) (first-behind 3 (asked .four) (omega arith) _ (omega arith))
-        (first-here 4 (asked .five) (omega arith) _ (omega arith)) (first-behind 4 (asked .five) (omega arith) _ (omega arith))
-
-    pub marks-allow : length allow ≡ 5 → has (marksOf bs i a b c d e) (2 ^ 1) ≡ fits (Sets allow m) (rowAt bs i)
-    unfolding marksOf
-    marks-allow five =
-        has-five _ _ _ _ _ 1
-        ∙ fits-five allow bs m i low long five most same-long
-        (second-here 0 (asked .one) (omega arith) _ (omega arith)) (second-behind 0 (asked .one) (omega arith) _ (omega arith))
-        (second-here 1 (asked .two) (omega arith) _ (omega arith)) (second-behind 1 (asked .two) (omega arith) _ (omega arith))
-        (second-here 2 (asked .three) (omega arith) _ (omega arith)) (second-behind 2 (asked .three) (omega arith) _ (omega arith))
-        (second-here 3 (asked .four) (omega arith) _ (omega arith)) (second-behind 3 (asked .four) (omega arith) _ (omega arith))
-        (second-here 4 (asked .five) (omega arith) _ (omega arith)) (second-behind 4 (asked .five) (omega arith) _ (omega arith))

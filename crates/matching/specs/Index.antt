@@ -13,8 +13,8 @@ use Rattle.tables.specs.View.{rowAt, rowsView}
 use Rattle.matching.specs.declared.RowSet.{RowSet}
 
 -- what row i has in column c: in column 0 how many sites, in column c its c-th site
-unfoldable pub keyOf : List ℕ → ℕ → ℕ → ℕ
-keyOf bs c i = cond (eqb c 0) (length (rowAt bs i)) (getD bs (6 * i + c) 0 % 32)
+unfoldable pub inColumn : List ℕ → ℕ → ℕ → ℕ
+inColumn bs c i = cond (eqb c 0) (length (rowAt bs i)) (getD bs (6 * i + c) 0 % 32)
 
 -- the four numbers of a set of rows
 unfoldable pub words : RowSet → List ℕ
@@ -30,12 +30,12 @@ inIndex t c v i = mem (i % 64) (getD t (128 * c + 4 * v + i / 64) 0)
 
 -- t is the index of the first n rows
 abbrev pub Indexed : ℕ → List ℕ → List ℕ → Type 0
-Indexed n bs t = (c v i : ℕ) → c < 6 → v < 32 → i < 256 → inIndex t c v i ≡ (ltb i n & eqb (keyOf bs c i) v)
+Indexed n bs t = (c v i : ℕ) → c < 6 → v < 32 → i < 256 → inIndex t c v i ≡ (ltb i n & eqb (inColumn bs c i) v)
 
 -- t is s with row i put into the first j columns
 pub record Entered (bs : List ℕ) (i j : ℕ) (s t : List ℕ) : Type 0 where
   pub long : length t ≡ length s
-  pub tells : (c v k : ℕ) → c < 6 → v < 32 → k < 256 → inIndex t c v k ≡ either (ltb c j & (eqb k i & eqb (keyOf bs c i) v)) (inIndex s c v k)
+  pub tells : (c v k : ℕ) → c < 6 → v < 32 → k < 256 → inIndex t c v k ≡ either (ltb c j & (eqb k i & eqb (inColumn bs c i) v)) (inIndex s c v k)
 
 -- n rows of sites
 pub record Low (n : ℕ) (bs : List ℕ) : Type 0 where
@@ -46,7 +46,3 @@ pub record Low (n : ℕ) (bs : List ℕ) : Type 0 where
 -- the rows of a set are among the n rows, and have m sites
 abbrev pub Long : ℕ → List ℕ → ℕ → List ℕ → Type 0
 Long n bs m r = (i : ℕ) → i < 256 → inRows r i ≡ true → (i < n) × (length (rowAt bs i) ≡ m)
-
--- t is the index of the first n rows, if it is as long as one
-abbrev pub Backed : ℕ → List ℕ → List ℕ → Type 0
-Backed n bs t = length t ≡ 768 → Indexed n bs t

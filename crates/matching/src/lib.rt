@@ -1,19 +1,18 @@
 //! Rows of tuples held against sets of sites: one set for a tuple's site, and one for each field.
 ghost use mathlib.Core.Path.{_≡_};
-ghost use mathlib.Core.Bool.{Bool, true, not, cond};
+ghost use mathlib.Core.Bool.{true, not};
 ghost use mathlib.Core.List.{List, map};
 ghost use Prim.Native.Nat.{ℕ, _<_, _≤_, _*_, min};
 ghost use lib.Dec.{ltb};
 ghost use lib.Bits.{bitOr};
 ghost use lib.ListN.{length, getD, take, set, replicate};
-ghost use Rattle.sets.specs.Lists.{_&_, either, imp, all, any, keep, same, among, below};
+ghost use Rattle.sets.specs.Lists.{_&_, either, imp, all, any, keep, same, below};
 ghost use Rattle.sets.specs.Bits.{mem, sites};
 ghost use Rattle.klaim.specs.Analysis.{choices as allChoices};
 ghost use Rattle.klaim.specs.Invariant.{allBelow, distinct};
 ghost use Rattle.klaim.proofs.Choices.{fits, product};
 ghost use Rattle.tables.specs.View.{rowAt, rowsView};
-ghost use Rattle.matching.specs.Index.{keyOf, words, inRows, inIndex, Indexed, Entered, Low, Long, Backed};
-ghost use Rattle.matching.specs.Marks.{markOf, Asks, Asked, marksOf, Bytes};
+ghost use Rattle.matching.specs.Index.{inColumn, words, inRows, inIndex, Indexed, Entered, Low, Long};
 
 // More than the rows of a table.
 const MANY: u32 = 257;
@@ -36,122 +35,6 @@ pub fn row_len(rows: &[u8; 1536], i: usize) -> usize
 {
     let n = wide(rows[6 * i]);
     if n < 5 { n } else { 5 }
-}
-
-// Two tests as a byte: 1 the first, 2 the second.
-fn mark(a: bool, b: bool) -> u8
-    ensures { λ r. ⌜ r ≡ markOf a b ⌝ }
-{
-    if a {
-        if b {
-            return 3;
-        }
-        return 1;
-    }
-    if b {
-        return 2;
-    }
-    0
-}
-
-// For each number whether it is a site of the first set, and of the second.
-fn marks(want: u32, allow: u32) -> [u8; 256]
-    ensures { λ r. ⌜ ((v : ℕ) → v < 256 → getD r v 0 ≡ markOf (among (sites want) v) (among (sites allow) v)) ⌝ }
-{
-    let mut r = [0u8; 256];
-    let mut v: usize = 0;
-    while v < 32 {
-        let s = v as u8;
-        r[v] = mark(sets::has_site(want, s), sets::has_site(allow, s));
-        v += 1;
-    }
-    r
-}
-
-// The marks for place j of m; behind these nothing is asked.
-fn place(want: [u32; 5], allow: [u32; 5], m: usize, j: usize) -> [u8; 256]
-    requires { ⌜ j < 5 ⌝ }
-    ensures { λ r. ⌜ Asks want allow m j r ⌝ }
-{
-    if j < m {
-        return marks(want[j], allow[j]);
-    }
-    [3u8; 256]
-}
-
-fn byte(x: u8) -> usize
-    ensures { λ r. ⌜ (r ≡ x) × (r < 256) ⌝ }
-{
-    x as usize
-}
-
-// What the marks for five places have in common on row i. It takes the same time for any row.
-fn row_marks(
-    rows: &[u8; 1536],
-    i: usize,
-    a: &[u8; 256],
-    b: &[u8; 256],
-    c: &[u8; 256],
-    d: &[u8; 256],
-    e: &[u8; 256],
-) -> u8
-    requires { ⌜ (i < 256) × (length (now rows) ≡ 1536) × (length (now a) ≡ 256) × (length (now b) ≡ 256) × (length (now c) ≡ 256) × (length (now d) ≡ 256) × (length (now e) ≡ 256) ⌝ }
-    ensures { λ r. ⌜ r ≡ marksOf (now (rows .entry)) i (now (a .entry)) (now (b .entry)) (now (c .entry)) (now (d .entry)) (now (e .entry)) ⌝ }
-    ensures { λ r. ⌜ Bytes (now (rows .entry)) i ⌝ }
-{
-    let at = 6 * i;
-    let p = byte(rows[at + 1]);
-    let q = byte(rows[at + 2]);
-    let r = byte(rows[at + 3]);
-    let s = byte(rows[at + 4]);
-    let t = byte(rows[at + 5]);
-    a[p] & (b[q] & (c[r] & (d[s] & e[t])))
-}
-
-// Whether row i has m sites, each within its set.
-fn row_within(
-    rows: &[u8; 1536],
-    i: usize,
-    a: &[u8; 256],
-    b: &[u8; 256],
-    c: &[u8; 256],
-    d: &[u8; 256],
-    e: &[u8; 256],
-    m: usize,
-) -> bool
-    requires { ⌜ (i < 256) × (length (now rows) ≡ 1536) × (length (now a) ≡ 256) × (length (now b) ≡ 256) × (length (now c) ≡ 256) × (length (now d) ≡ 256) × (length (now e) ≡ 256) × (m ≤ 5) ⌝ }
-    ensures { λ r. ⌜ ((want allow : List ℕ) → length want ≡ 5 → Asked want allow m (now (a .entry)) (now (b .entry)) (now (c .entry)) (now (d .entry)) (now (e .entry)) → r ≡ fits (map sites (take m want)) (rowAt (now (rows .entry)) i)) ⌝ }
-{
-    let x = row_marks(rows, i, a, b, c, d, e);
-    if row_len(rows, i) == m {
-        return x % 2 == 1;
-    }
-    false
-}
-
-fn one(b: bool) -> u32
-    ensures { λ r. ⌜ (r ≡ cond b 1 0) × (r ≤ 1) ⌝ }
-{
-    if b { 1 } else { 0 }
-}
-
-// How many of the n rows have m sites, each within its set.
-fn rows_within(rows: &[u8; 1536], n: usize, reaches: [u32; 5], m: usize) -> u32
-    requires { ⌜ (n ≤ 256) × (length (now rows) ≡ 1536) × (m ≤ 5) ⌝ }
-    ensures { λ r. ⌜ (r ≡ length (keep (fits (map sites (take m reaches))) (rowsView n (now (rows .entry))))) × (r ≤ n) ⌝ }
-{
-    let a = place(reaches, reaches, m, 0);
-    let b = place(reaches, reaches, m, 1);
-    let c = place(reaches, reaches, m, 2);
-    let d = place(reaches, reaches, m, 3);
-    let e = place(reaches, reaches, m, 4);
-    let mut have: u32 = 0;
-    let mut i = 0;
-    while i < n {
-        have = have + one(row_within(rows, i, &a, &b, &c, &d, &e, m));
-        i += 1;
-    }
-    have
 }
 
 // How many sites a set has.
@@ -184,66 +67,9 @@ fn choices(reaches: [u32; 5], m: usize) -> u32
     p
 }
 
-// Whether row i, if it lies within the sets `want`, lies within the sets `allow` too.
-fn row_bound(
-    rows: &[u8; 1536],
-    i: usize,
-    a: &[u8; 256],
-    b: &[u8; 256],
-    c: &[u8; 256],
-    d: &[u8; 256],
-    e: &[u8; 256],
-    m: usize,
-) -> bool
-    requires { ⌜ (i < 256) × (length (now rows) ≡ 1536) × (length (now a) ≡ 256) × (length (now b) ≡ 256) × (length (now c) ≡ 256) × (length (now d) ≡ 256) × (length (now e) ≡ 256) × (m ≤ 5) ⌝ }
-    ensures { λ r. ⌜ ((want allow : List ℕ) → length want ≡ 5 → length allow ≡ 5 → Asked want allow m (now (a .entry)) (now (b .entry)) (now (c .entry)) (now (d .entry)) (now (e .entry)) → r ≡ imp (fits (map sites (take m want)) (rowAt (now (rows .entry)) i)) (fits (map sites (take m allow)) (rowAt (now (rows .entry)) i))) ⌝ }
-{
-    let x = row_marks(rows, i, a, b, c, d, e);
-    let count = row_len(rows, i);
-    if count == m {
-        return holds(x % 2 == 1, x / 2 % 2 == 1);
-    }
-    true
-}
-
-// Whether b, if a.
-fn holds(a: bool, b: bool) -> bool
-    ensures { λ r. ⌜ r ≡ imp a b ⌝ }
-{
-    if a { b } else { true }
-}
-
-fn both(a: bool, b: bool) -> bool
-    ensures { λ r. ⌜ r ≡ (a & b) ⌝ }
-{
-    if a { b } else { false }
-}
-
-// Whether each of the n rows that lies within the sets `want` lies within the sets `allow` too: all rows are gone through.
-fn bound_by_rows(rows: &[u8; 1536], n: usize, want: [u32; 5], allow: [u32; 5], m: usize) -> bool
-    requires { ⌜ (n ≤ 256) × (length (now rows) ≡ 1536) × (m ≤ 5) ⌝ }
-    ensures { λ r. ⌜ r ≡ all (λ row. imp (fits (map sites (take m want)) row) (fits (map sites (take m allow)) row)) (rowsView n (now (rows .entry))) ⌝ }
-{
-    let a = place(want, allow, m, 0);
-    let b = place(want, allow, m, 1);
-    let c = place(want, allow, m, 2);
-    let d = place(want, allow, m, 3);
-    let e = place(want, allow, m, 4);
-    let mut ok = true;
-    let mut i = n;
-    while 0 < i {
-        i -= 1;
-        ok = both(row_bound(rows, i, &a, &b, &c, &d, &e, m), ok);
-    }
-    ok
-}
-
 // An index of a table of rows has, from place 128 * c + 4 * v on, the set of the rows with v in column c.
 // In column 0 stands how many sites a row has, in column c its c-th site.
 const COLUMNS: usize = 6;
-
-// Numbers of an index. One of another length is not made.
-const INDEX: usize = 768;
 
 // A set of rows: row i is bit i % 64 of number i / 64.
 pub struct RowSet {
@@ -256,7 +82,7 @@ pub struct RowSet {
 // What row i has in column c.
 fn key(rows: &[u8; 1536], i: usize, c: usize) -> usize
     requires { ⌜ (i < 256) × (c < 6) × (length (now rows) ≡ 1536) ⌝ }
-    ensures { λ r. ⌜ (r ≡ keyOf (now (rows .entry)) c i) × (r < 32) ⌝ }
+    ensures { λ r. ⌜ (r ≡ inColumn (now (rows .entry)) c i) × (r < 32) ⌝ }
 {
     if c == 0 {
         return row_len(rows, i);
@@ -297,7 +123,7 @@ pub fn fill(index: &mut [u64; 768], rows: &[u8; 1536], n: usize)
 }
 
 // The rows with v in column c.
-fn rows_with(index: &[u64], column: usize, v: usize) -> RowSet
+fn rows_with(index: &[u64; 768], column: usize, v: usize) -> RowSet
     requires { ⌜ (column < 6) × (v < 32) × (length (now index) ≡ 768) ⌝ }
     ensures { λ r. ⌜ ((i : ℕ) → i < 256 → inRows (words r) i ≡ inIndex (now (index .entry)) column v i) ⌝ }
 {
@@ -343,9 +169,9 @@ fn in_first(x: RowSet, y: RowSet) -> RowSet
 }
 
 // The rows whose site in column c is in the set. Each turn takes the least site out of the rest.
-fn rows_in(index: &[u64], c: usize, set: u32) -> RowSet
+fn rows_in(index: &[u64; 768], c: usize, set: u32) -> RowSet
     requires { ⌜ (c < 6) × (length (now index) ≡ 768) ⌝ }
-    ensures { λ r. ⌜ ((n : ℕ) (bs : List ℕ) → Indexed n bs (now (index .entry)) → (i : ℕ) → i < 256 → inRows (words r) i ≡ (ltb i n & mem (keyOf bs c i) set)) ⌝ }
+    ensures { λ r. ⌜ ((n : ℕ) (bs : List ℕ) → Indexed n bs (now (index .entry)) → (i : ℕ) → i < 256 → inRows (words r) i ≡ (ltb i n & mem (inColumn bs c i) set)) ⌝ }
 {
     let mut r = RowSet {
         a: 0,
@@ -363,9 +189,9 @@ fn rows_in(index: &[u64], c: usize, set: u32) -> RowSet
 }
 
 // Of some of the rows those whose site in column c is in the set. Where it has most sites, those with another site are left out.
-fn kept(index: &[u64], had: RowSet, c: usize, set: u32) -> RowSet
+fn kept(index: &[u64; 768], had: RowSet, c: usize, set: u32) -> RowSet
     requires { ⌜ (c < 6) × (length (now index) ≡ 768) ⌝ }
-    ensures { λ r. ⌜ ((n : ℕ) (bs : List ℕ) → Indexed n bs (now (index .entry)) → (i : ℕ) → i < 256 → keyOf bs c i < 32 → (inRows (words had) i ≡ true → i < n) → inRows (words r) i ≡ (inRows (words had) i & mem (keyOf bs c i) set)) ⌝ }
+    ensures { λ r. ⌜ ((n : ℕ) (bs : List ℕ) → Indexed n bs (now (index .entry)) → (i : ℕ) → i < 256 → inColumn bs c i < 32 → (inRows (words had) i ≡ true → i < n) → inRows (words r) i ≡ (inRows (words had) i & mem (inColumn bs c i) set)) ⌝ }
 {
     if u32::count_ones(set) <= HALF {
         return in_both(had, rows_in(index, c, set));
@@ -374,7 +200,7 @@ fn kept(index: &[u64], had: RowSet, c: usize, set: u32) -> RowSet
 }
 
 // Of some rows with m sites those with each site within its set.
-fn narrowed(index: &[u64], had: RowSet, reaches: [u32; 5], m: usize) -> RowSet
+fn narrowed(index: &[u64; 768], had: RowSet, reaches: [u32; 5], m: usize) -> RowSet
     requires { ⌜ (m ≤ 5) × (length (now index) ≡ 768) ⌝ }
     ensures { λ r. ⌜ ((n : ℕ) (bs : List ℕ) → Indexed n bs (now (index .entry)) → Low n bs → Long n bs m (words had) → (i : ℕ) → i < 256 → inRows (words r) i ≡ (inRows (words had) i & fits (map sites (take m reaches)) (rowAt bs i))) ⌝ }
 {
@@ -388,7 +214,7 @@ fn narrowed(index: &[u64], had: RowSet, reaches: [u32; 5], m: usize) -> RowSet
 }
 
 // The rows with m sites, each within its set.
-fn chosen(index: &[u64], reaches: [u32; 5], m: usize) -> RowSet
+fn chosen(index: &[u64; 768], reaches: [u32; 5], m: usize) -> RowSet
     requires { ⌜ (m ≤ 5) × (length (now index) ≡ 768) ⌝ }
     ensures { λ r. ⌜ ((n : ℕ) (bs : List ℕ) → Indexed n bs (now (index .entry)) → Low n bs → (i : ℕ) → i < 256 → inRows (words r) i ≡ (ltb i n & fits (map sites (take m reaches)) (rowAt bs i))) ⌝ }
 {
@@ -439,8 +265,8 @@ fn same_rows(x: RowSet, y: RowSet) -> bool
     x.d == y.d
 }
 
-// Whether each row that lies within the sets `want` lies within the sets `allow` too, by the index.
-fn bound_by_index(index: &[u64], want: [u32; 5], allow: [u32; 5], m: usize) -> bool
+// Whether each row that lies within the sets `want` lies within the sets `allow` too.
+pub fn every_bound(index: &[u64; 768], want: [u32; 5], allow: [u32; 5], m: usize) -> bool
     requires { ⌜ (m ≤ 5) × (length (now index) ≡ 768) ⌝ }
     ensures { λ r. ⌜ ((n : ℕ) (bs : List ℕ) → Indexed n bs (now (index .entry)) → Low n bs → r ≡ all (λ row. imp (fits (map sites (take m want)) row) (fits (map sites (take m allow)) row)) (rowsView n bs)) ⌝ }
 {
@@ -449,51 +275,22 @@ fn bound_by_index(index: &[u64], want: [u32; 5], allow: [u32; 5], m: usize) -> b
     same_rows(wanted, both)
 }
 
-// Whether each of the n rows that lies within the sets `want` lies within the sets `allow` too, by the index if it is made.
-pub fn every_bound(
-    rows: &[u8; 1536],
-    n: usize,
-    index: &[u64],
-    want: [u32; 5],
-    allow: [u32; 5],
-    m: usize,
-) -> bool
-    requires { ⌜ Low n (now rows) × (m ≤ 5) × Backed n (now rows) (now index) ⌝ }
-    ensures { λ r. ⌜ r ≡ all (λ row. imp (fits (map sites (take m want)) row) (fits (map sites (take m allow)) row)) (rowsView n (now (rows .entry))) ⌝ }
-{
-    if index.len() == INDEX {
-        return bound_by_index(index, want, allow, m);
-    }
-    bound_by_rows(rows, n, want, allow, m)
-}
-
-// How many of the n rows have m sites, each within its set, by the index if it is made.
-fn rows_chosen(rows: &[u8; 1536], n: usize, index: &[u64], reaches: [u32; 5], m: usize) -> u32
-    requires { ⌜ Low n (now rows) × (m ≤ 5) × Backed n (now rows) (now index) ⌝ }
-    ensures { λ r. ⌜ (r ≡ length (keep (fits (map sites (take m reaches))) (rowsView n (now (rows .entry))))) × (r ≤ 256) ⌝ }
-{
-    if index.len() == INDEX {
-        return count_rows(chosen(index, reaches, m));
-    }
-    rows_within(rows, n, reaches, m)
-}
-
 // Whether every choice of one site from each of the m sets has a row.
 // The rows are distinct, so it is enough to count those within the sets.
-pub fn every_choice(rows: &[u8; 1536], n: usize, index: &[u64], reaches: [u32; 5], m: usize) -> bool
-    requires { ⌜ Low n (now rows) × (m ≤ 5) × Backed n (now rows) (now index) × (distinct (rowsView n (now rows)) ≡ true) ⌝ }
-    ensures { λ r. ⌜ r ≡ allChoices (map sites (take m reaches)) (λ t. any (same t) (rowsView n (now (rows .entry)))) ⌝ }
+pub fn every_choice(index: &[u64; 768], reaches: [u32; 5], m: usize) -> bool
+    requires { ⌜ (m ≤ 5) × (length (now index) ≡ 768) ⌝ }
+    ensures { λ r. ⌜ ((n : ℕ) (bs : List ℕ) → Indexed n bs (now (index .entry)) → Low n bs → distinct (rowsView n bs) ≡ true → r ≡ allChoices (map sites (take m reaches)) (λ t. any (same t) (rowsView n bs))) ⌝ }
 {
     let need = choices(reaches, m);
     if MANY <= need {
         return false;
     }
-    let have = rows_chosen(rows, n, index, reaches, m);
+    let have = count_rows(chosen(index, reaches, m));
     have == need
 }
 
 // The rows, of some with m sites, that are alike to tuple i.
-fn alike(index: &[u64], had: RowSet, tuples: &[u8; 1536], i: usize, m: usize) -> RowSet
+fn alike(index: &[u64; 768], had: RowSet, tuples: &[u8; 1536], i: usize, m: usize) -> RowSet
     requires { ⌜ (i < 256) × (m ≤ 5) × (length (now index) ≡ 768) × (length (now tuples) ≡ 1536) × (m ≡ length (rowAt (now tuples) i)) × (allBelow 32 (rowAt (now tuples) i) ≡ true) ⌝ }
     ensures { λ r. ⌜ ((n : ℕ) (bs : List ℕ) → Indexed n bs (now (index .entry)) → Low n bs → Long n bs m (words had) → (k : ℕ) → k < 256 → inRows (words r) k ≡ (inRows (words had) k & same (rowAt (now (tuples .entry)) i) (rowAt bs k))) ⌝ }
 {
@@ -507,7 +304,7 @@ fn alike(index: &[u64], had: RowSet, tuples: &[u8; 1536], i: usize, m: usize) ->
 }
 
 // Whether tuple i has a row.
-pub fn has_row(index: &[u64], tuples: &[u8; 1536], i: usize) -> bool
+pub fn has_row(index: &[u64; 768], tuples: &[u8; 1536], i: usize) -> bool
     requires { ⌜ (i < 256) × (length (now index) ≡ 768) × (length (now tuples) ≡ 1536) × (allBelow 32 (rowAt (now tuples) i) ≡ true) ⌝ }
     ensures { λ r. ⌜ ((n : ℕ) (bs : List ℕ) → Indexed n bs (now (index .entry)) → Low n bs → r ≡ any (same (rowAt (now (tuples .entry)) i)) (rowsView n bs)) ⌝ }
 {

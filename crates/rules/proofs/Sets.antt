@@ -21,8 +21,13 @@ use Rattle.klaim.specs.Analysis.{reach, reached, slotMatch, matches, choices, s
 use Rattle.klaim.specs.Invariant.{allBelow}
 use Rattle.klaim.proofs.Choices.{fits}
 use Rattle.tables.specs.View.{fieldBytes, locOf, slotOf, LowSlot}
+use Rattle.matching.specs.Index.{Low}
 use Rattle.matching.proofs.Laws.{among-low}
-use Rattle.rules.specs.Masks.{anySite, wanted, allowed}
+use Rattle.rules.specs.Masks.{anySite, wanted, allowed, Sized}
+
+-- distinct rows of sites are rows of sites
+pub sized-low : {n : ℕ} {bs : List ℕ} → Sized n bs → Low n bs
+sized-low s = record { few = s .few; long = s .long; sites = s .low }
 
 -- one more set is stored
 pub sets-more : (F : ℕ → ℕ) (x : ℕ) (fs r : List ℕ) (j v : ℕ) → length fs ≡ 4 → length r ≡ 5 → j < 4 → take (j + 1) r ≡ x ∷ map F (take j fs) → v ≡ F (getD fs j 0) → take (j + 1 + 1) (set r (j + 1) v) ≡ x ∷ map F (take (j + 1) fs)

@@ -14,6 +14,7 @@ use Rattle.klaim.specs.Net.{Estimate, may}
 use Rattle.klaim.specs.Analysis.{reach}
 use Rattle.klaim.specs.Invariant.{allBelow, distinct}
 use Rattle.tables.specs.View.{rowsView}
+use Rattle.matching.specs.Index.{Indexed}
 
 -- all sites
 abbrev pub anySite : ℕ
@@ -35,3 +36,11 @@ pub record Sized (n : ℕ) (bs : List ℕ) : Type 0 where
   pub long : length bs ≡ 1536
   pub alone : distinct (rowsView n bs) ≡ true
   pub low : all (allBelow 32) (rowsView n bs) ≡ true
+
+-- t is the index of the A rows of E
+pub record IndexOf (E : Estimate) (t : List ℕ) : Type 0 where
+  pub count : ℕ
+  pub bytes : List ℕ
+  pub rows : E .stand ≡ rowsView count bytes
+  pub sized : Sized count bytes
+  pub made : Indexed count bytes t

@@ -11,9 +11,8 @@ ghost use Rattle.klaim.specs.declared.Slot.the-variants.{Value};
 ghost use Rattle.klaim.specs.Net.{Net, Estimate, boxAt, holds};
 ghost use Rattle.klaim.specs.Analysis.{reach as reachOf, outRule, getRule, evalRule};
 ghost use Rattle.klaim.specs.Invariant.{allBelow, distinct};
-ghost use Rattle.tables.specs.View.{rowsView, fieldBytes, locOf, slotOf, LowLoc, LowSlot};
-ghost use Rattle.matching.specs.Index.{Backed};
-ghost use Rattle.rules.specs.Masks.{anySite, wanted as wantedOf, allowed as allowedOf, Sized};
+ghost use Rattle.tables.specs.View.{fieldBytes, locOf, slotOf, LowLoc, LowSlot};
+ghost use Rattle.rules.specs.Masks.{anySite, wanted as wantedOf, allowed as allowedOf, IndexOf};
 use klaim::Loc;
 use klaim::Slot;
 
@@ -118,16 +117,14 @@ pub fn out_rule(
     target: Loc,
     places: u32,
     binds: &[u32; 32],
-    rows: &[u8; 1536],
-    n: usize,
-    index: &[u64],
+    index: &[u64; 768],
 ) -> bool
-    requires { ⌜ LowLoc target × (count ≤ 4) × (length (now lines) ≡ 2560) × Sized n (now rows) × Backed n (now rows) (now index) ⌝ }
-    ensures { λ r. ⌜ ((E : Estimate) → E .binds ≡ now (binds .entry) → E .stand ≡ rowsView n (now (rows .entry)) → r ≡ outRule E places target (map locOf (take count (fieldBytes (now (lines .entry)) q)))) ⌝ }
+    requires { ⌜ LowLoc target × (count ≤ 4) × (length (now lines) ≡ 2560) × (length (now index) ≡ 768) ⌝ }
+    ensures { λ r. ⌜ ((E : Estimate) → E .binds ≡ now (binds .entry) → IndexOf E (now (index .entry)) → r ≡ outRule E places target (map locOf (take count (fieldBytes (now (lines .entry)) q)))) ⌝ }
 {
     let sets = out_sets(lines, q, count, target, places, binds);
     let m = (count as usize) + 1;
-    matching::every_choice(rows, n, index, sets, m)
+    matching::every_choice(index, sets, m)
 }
 
 // The rule of an in or read line.
@@ -138,17 +135,15 @@ pub fn get_rule(
     target: Loc,
     places: u32,
     binds: &[u32; 32],
-    rows: &[u8; 1536],
-    n: usize,
-    index: &[u64],
+    index: &[u64; 768],
 ) -> bool
-    requires { ⌜ LowLoc target × (count ≤ 4) × (length (now lines) ≡ 2560) × Sized n (now rows) × Backed n (now rows) (now index) ⌝ }
-    ensures { λ r. ⌜ ((E : Estimate) → E .binds ≡ now (binds .entry) → E .stand ≡ rowsView n (now (rows .entry)) → r ≡ getRule E places target (map slotOf (take count (fieldBytes (now (lines .entry)) q)))) ⌝ }
+    requires { ⌜ LowLoc target × (count ≤ 4) × (length (now lines) ≡ 2560) × (length (now index) ≡ 768) ⌝ }
+    ensures { λ r. ⌜ ((E : Estimate) → E .binds ≡ now (binds .entry) → IndexOf E (now (index .entry)) → r ≡ getRule E places target (map slotOf (take count (fieldBytes (now (lines .entry)) q)))) ⌝ }
 {
     let want = want_sets(lines, q, count, target, places, binds);
     let allow = allow_sets(lines, q, count, binds);
     let m = (count as usize) + 1;
-    matching::every_bound(rows, n, index, want, allow, m)
+    matching::every_bound(index, want, allow, m)
 }
 
 pub fn both(a: bool, b: bool) -> bool

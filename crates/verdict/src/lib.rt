@@ -9,8 +9,8 @@ ghost use Rattle.klaim.specs.Net.{Net, Estimate};
 ghost use Rattle.klaim.specs.Analysis.{stands, firstNot, broken as brokenOf, placeSet, process, verdict as verdictOf, verdictOf as verdictBy};
 ghost use Rattle.klaim.specs.Invariant.{allBelow};
 ghost use Rattle.tables.specs.View.{rowAt, rowsView, rootsView, rootAt, linesView};
-ghost use Rattle.matching.specs.Index.{Indexed, Low, Backed};
-ghost use Rattle.rules.specs.Masks.{Sized};
+ghost use Rattle.matching.specs.Index.{Indexed, Low};
+ghost use Rattle.rules.specs.Masks.{IndexOf};
 ghost use Rattle.report.specs.Given.{Rooted, Given};
 ghost use Rattle.broken.specs.Lowest.{lowest, found};
 ghost use Rattle.verdict.specs.Verdict.{verdictView, placeOf, Tabled, Judgeable};
@@ -22,7 +22,7 @@ pub enum Verdict {
 }
 
 // The first of the T rows whose tuple has no A row, by the index of these; their number, where there is none.
-fn first_missing(tuples: &[u8; 1536], count: usize, index: &[u64]) -> usize
+fn first_missing(tuples: &[u8; 1536], count: usize, index: &[u64; 768]) -> usize
     requires { ⌜ (count ≤ 256) × (length (now tuples) ≡ 1536) × (all (allBelow 32) (rowsView count (now tuples)) ≡ true) × (length (now index) ≡ 768) ⌝ }
     ensures { λ r. ⌜ ((n : ℕ) (bs : List ℕ) → Indexed n bs (now (index .entry)) → Low n bs → placeOf count r ≡ firstNot (λ t. any (same t) (rowsView n bs)) (rowsView count (now (tuples .entry)))) × (r ≤ count) ⌝ }
 {
@@ -46,12 +46,10 @@ fn first_line(
     boxes: &[u8; 1056],
     binds: &[u32; 32],
     hold: &[u8; 1024],
-    rows: &[u8; 1536],
-    n: usize,
-    index: &[u64],
+    index: &[u64; 768],
 ) -> u16
-    requires { ⌜ Rooted nlines (now lines) nroots (now roots) × (length (now lines) ≡ 2560) × Sized n (now rows) × Backed n (now rows) (now index) ⌝ }
-    ensures { λ r. ⌜ ((N : Net) (E : Estimate) → N .boxes ≡ now (boxes .entry) → N .lines ≡ linesView nlines (now (lines .entry)) → E .binds ≡ now (binds .entry) → E .hold ≡ now (hold .entry) → E .stand ≡ rowsView n (now (rows .entry)) → r ≡ lowest (concat (λ x. brokenOf N E (placeSet (x .site)) (process N x)) (rootsView nroots (now (roots .entry))))) ⌝ }
+    requires { ⌜ Rooted nlines (now lines) nroots (now roots) × (length (now lines) ≡ 2560) × (length (now index) ≡ 768) ⌝ }
+    ensures { λ r. ⌜ ((N : Net) (E : Estimate) → N .boxes ≡ now (boxes .entry) → N .lines ≡ linesView nlines (now (lines .entry)) → E .binds ≡ now (binds .entry) → E .hold ≡ now (hold .entry) → IndexOf E (now (index .entry)) → r ≡ lowest (concat (λ x. brokenOf N E (placeSet (x .site)) (process N x)) (rootsView nroots (now (roots .entry))))) ⌝ }
 {
     let mut r: u16 = broken::NONE;
     let mut i = nroots;
@@ -64,8 +62,6 @@ fn first_line(
             boxes,
             binds,
             hold,
-            rows,
-            n,
             index,
             places,
             roots[2 * i + 1],
@@ -108,17 +104,6 @@ pub fn judge<'a>(
     let mut index = [0u64; 768];
     matching::fill(&mut index, rows, n);
     let i = first_missing(tuples, ntuples, &index);
-    let q = first_line(
-        roots,
-        nroots,
-        lines,
-        nlines,
-        boxes,
-        binds,
-        hold,
-        rows,
-        n,
-        &index,
-    );
+    let q = first_line(roots, nroots, lines, nlines, boxes, binds, hold, &index);
     decide(i as u16, ntuples as u16, q)
 }

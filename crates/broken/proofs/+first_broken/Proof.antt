@@ -27,19 +27,19 @@ use Rattle.tables.proofs.action_at.Reads as action-at-reads
 use Rattle.broken.proofs.+first_broken.{statement}
 use Rattle.broken.proofs.+first_broken.Tie.{close}
 
-abbrev μ-first-broken : Measures 6 first-broken-kinds.ps ℕ
-μ-first-broken κs a = 256 - a .1 .1 .1 .1 .1 .1 .1 .1 .1 .0
+abbrev μ-first-broken : Measures 5 first-broken-kinds.ps ℕ
+μ-first-broken κs a = 256 - a .1 .1 .1 .1 .1 .1 .1 .0
 
-abbrev first-broken-at : ℕ → In 6 first-broken-kinds.ps
+abbrev first-broken-at : ℕ → In 5 first-broken-kinds.ps
 first-broken-at t =
-    and 6 first-broken-kinds.ps (is 6 first-broken-kinds.ps μ-first-broken t) first-broken.Pre
+    and 5 first-broken-kinds.ps (is 5 first-broken-kinds.ps μ-first-broken t) first-broken.Pre
 
-abbrev first-broken-below : ℕ → In 6 first-broken-kinds.ps
+abbrev first-broken-below : ℕ → In 5 first-broken-kinds.ps
 first-broken-below t =
     and
-    6
+    5
     first-broken-kinds.ps
-    (falls 6 first-broken-kinds.ps _<_ μ-first-broken t)
+    (falls 5 first-broken-kinds.ps _<_ μ-first-broken t)
     first-broken.Pre
 
 abbrev claims : ℕ → first-broken-lts.Claims
@@ -56,7 +56,7 @@ first-broken-enum-known-action t c = search needs
 
 first-broken-first-broken-requires : (t : ℕ) → first-broken-lts.Need-first-broken-requires (claims t) (first-broken-at t) first-broken.Post
 first-broken-first-broken-requires t c κs =
-    let s = c .before .before .before .before .before in
+    let s = c .before .before .before .before in
     let d = c .before .before .before .action-at .ensures in
     let e = c .before .action .given .1 in
     let k = next (s .pre .1 .0) d e in
@@ -64,7 +64,7 @@ first-broken-first-broken-requires t c κs =
 
 first-broken-first-broken-requires-2 : (t : ℕ) → first-broken-lts.Need-first-broken-requires-2 (claims t) (first-broken-at t) first-broken.Post
 first-broken-first-broken-requires-2 t c κs =
-    let s = c .before .before .before .before .before .before in
+    let s = c .before .before .before .before .before in
     let d = c .before .before .before .before .action-at .ensures in
     let e = c .before .before .action .given .1 in
     let k = next (s .pre .1 .0) d e in
@@ -78,7 +78,7 @@ first-broken-enum-known-action-2 t c = search needs
 
 first-broken-first-broken-requires-3 : (t : ℕ) → first-broken-lts.Need-first-broken-requires-3 (claims t) (first-broken-at t) first-broken.Post
 first-broken-first-broken-requires-3 t c κs =
-    let s = c .before .before .before .before .before in
+    let s = c .before .before .before .before in
     let d = c .before .before .before .action-at .ensures in
     let e = c .before .action2 .given .1 in
     let k = next (s .pre .1 .0) d e in
@@ -89,7 +89,7 @@ first-broken-enum-known-action-3 t c = search needs
 
 first-broken-first-broken-requires-4 : (t : ℕ) → first-broken-lts.Need-first-broken-requires-4 (claims t) (first-broken-at t) first-broken.Post
 first-broken-first-broken-requires-4 t c κs =
-    let s = c .before .before .before .before .before in
+    let s = c .before .before .before .before in
     let d = c .before .before .before .action-at .ensures in
     let e = c .before .action3 .given .1 in
     let k = next (s .pre .1 .0) d e in
@@ -97,11 +97,11 @@ first-broken-first-broken-requires-4 t c κs =
 
 first-broken-out-rule-requires : (t : ℕ) → first-broken-lts.Need-out-rule-requires (claims t) (first-broken-at t) first-broken.Post
 first-broken-out-rule-requires t c κs =
-    let s = c .before .before .before .before .before .before in
+    let s = c .before .before .before .before .before in
     let d = c .before .before .before .before .action-at .ensures in
     let e = c .before .before .action3 .given .1 in
     let k = next (s .pre .1 .0) d e in
-    (k .1, k .2, s .pre .1 .1 .0, s .pre .1 .1 .1 .0, s .pre .1 .1 .1 .1)
+    (k .1, k .2, s .pre .1 .1 .0, s .pre .1 .1 .1)
 
 first-broken-or-here-requires : (t : ℕ) → first-broken-lts.Need-or-here-requires (claims t) (first-broken-at t) first-broken.Post
 first-broken-or-here-requires t c κs = search needs
@@ -111,7 +111,7 @@ first-broken-enum-known-action-4 t c = search needs
 
 first-broken-first-broken-requires-5 : (t : ℕ) → first-broken-lts.Need-first-broken-requires-5 (claims t) (first-broken-at t) first-broken.Post
 first-broken-first-broken-requires-5 t c κs =
-    let s = c .before .before .before .before .before in
+    let s = c .before .before .before .before in
     let d = c .before .before .before .action-at .ensures in
     let e = c .before .action4 .given .1 in
     let k = next (s .pre .1 .0) d e in
@@ -119,11 +119,11 @@ first-broken-first-broken-requires-5 t c κs =
 
 first-broken-get-rule-requires : (t : ℕ) → first-broken-lts.Need-get-rule-requires (claims t) (first-broken-at t) first-broken.Post
 first-broken-get-rule-requires t c κs =
-    let s = c .before .before .before .before .before .before in
+    let s = c .before .before .before .before .before in
     let d = c .before .before .before .before .action-at .ensures in
     let e = c .before .before .action4 .given .1 in
     let k = next (s .pre .1 .0) d e in
-    (k .1, k .2, s .pre .1 .1 .0, s .pre .1 .1 .1 .0, s .pre .1 .1 .1 .1)
+    (k .1, k .2, s .pre .1 .1 .0, s .pre .1 .1 .1)
 
 first-broken-or-here-requires-2 : (t : ℕ) → first-broken-lts.Need-or-here-requires-2 (claims t) (first-broken-at t) first-broken.Post
 first-broken-or-here-requires-2 t c κs = search needs
@@ -133,7 +133,7 @@ first-broken-enum-known-action-5 t c = search needs
 
 first-broken-first-broken-requires-6 : (t : ℕ) → first-broken-lts.Need-first-broken-requires-6 (claims t) (first-broken-at t) first-broken.Post
 first-broken-first-broken-requires-6 t c κs =
-    let s = c .before .before .before .before .before in
+    let s = c .before .before .before .before in
     let d = c .before .before .before .action-at .ensures in
     let e = c .before .action5 .given .1 in
     let k = next (s .pre .1 .0) d e in
@@ -141,11 +141,11 @@ first-broken-first-broken-requires-6 t c κs =
 
 first-broken-get-rule-requires-2 : (t : ℕ) → first-broken-lts.Need-get-rule-requires-2 (claims t) (first-broken-at t) first-broken.Post
 first-broken-get-rule-requires-2 t c κs =
-    let s = c .before .before .before .before .before .before in
+    let s = c .before .before .before .before .before in
     let d = c .before .before .before .before .action-at .ensures in
     let e = c .before .before .action5 .given .1 in
     let k = next (s .pre .1 .0) d e in
-    (k .1, k .2, s .pre .1 .1 .0, s .pre .1 .1 .1 .0, s .pre .1 .1 .1 .1)
+    (k .1, k .2, s .pre .1 .1 .0, s .pre .1 .1 .1)
 
 first-broken-or-here-requires-3 : (t : ℕ) → first-broken-lts.Need-or-here-requires-3 (claims t) (first-broken-at t) first-broken.Post
 first-broken-or-here-requires-3 t c κs = search needs
@@ -155,14 +155,14 @@ first-broken-enum-known-action-6 t c = search needs
 
 first-broken-reach-requires : (t : ℕ) → first-broken-lts.Need-reach-requires (claims t) (first-broken-at t) first-broken.Post
 first-broken-reach-requires t c κs =
-    let s = c .before .before .before .before .before in
+    let s = c .before .before .before .before in
     let d = c .before .before .before .action-at .ensures in
     let e = c .before .action6 .given .1 in
     next (s .pre .1 .0) d e .1
 
 first-broken-first-broken-requires-7 : (t : ℕ) → first-broken-lts.Need-first-broken-requires-7 (claims t) (first-broken-at t) first-broken.Post
 first-broken-first-broken-requires-7 t c κs =
-    let s = c .before .before .before .before .before .before in
+    let s = c .before .before .before .before .before in
     let d = c .before .before .before .before .action-at .ensures in
     let e = c .before .before .action6 .given .1 in
     let k = next (s .pre .1 .0) d e in
@@ -170,7 +170,7 @@ first-broken-first-broken-requires-7 t c κs =
 
 first-broken-first-broken-requires-8 : (t : ℕ) → first-broken-lts.Need-first-broken-requires-8 (claims t) (first-broken-at t) first-broken.Post
 first-broken-first-broken-requires-8 t c κs =
-    let s = c .before .before .before .before .before .before .before in
+    let s = c .before .before .before .before .before .before in
     let d = c .before .before .before .before .before .action-at .ensures in
     let e = c .before .before .before .action6 .given .1 in
     let k = next (s .pre .1 .0) d e in
@@ -178,7 +178,7 @@ first-broken-first-broken-requires-8 t c κs =
 
 first-broken-eval-rule-requires : (t : ℕ) → first-broken-lts.Need-eval-rule-requires (claims t) (first-broken-at t) first-broken.Post
 first-broken-eval-rule-requires t c κs =
-    let s = c .before .before .before .before .before .before .before .before in
+    let s = c .before .before .before .before .before .before .before in
     let d = c .before .before .before .before .before .before .action-at .ensures in
     let e = c .before .before .before .before .action6 .given .1 in
     next (s .pre .1 .0) d e .3
@@ -194,7 +194,7 @@ first-broken-enum-known-action-7 t c = search needs
 
 first-broken-first-broken-requires-9 : (t : ℕ) → first-broken-lts.Need-first-broken-requires-9 (claims t) (first-broken-at t) first-broken.Post
 first-broken-first-broken-requires-9 t c κs =
-    let s = c .before .before .before .before .before in
+    let s = c .before .before .before .before in
     let d = c .before .before .before .action-at .ensures in
     let e = c .before .action7 .given .1 in
     let k = next (s .pre .1 .0) d e in
@@ -203,14 +203,14 @@ first-broken-first-broken-requires-9 t c κs =
 first-broken-returns : (t : ℕ) → first-broken-lts.Need-returns (claims t) (first-broken-at t) first-broken.Post
 unfolding broken lowest node actionLine
 first-broken-returns t c =
-    let s = c .before .before .before .before in
+    let s = c .before .before .before in
     let d = c .before .before .action-at .ensures in
     λ N E b v h z. broken-at N E (s .args .places) (s .pre .1 .0) d (c .enum-told .given .1)
 
 first-broken-returns-2 : (t : ℕ) → first-broken-lts.Need-returns-2 (claims t) (first-broken-at t) first-broken.Post
 unfolding broken node actionLine
 first-broken-returns-2 t c =
-    let s = c .before .before .before .before .before .before .before .before in
+    let s = c .before .before .before .before .before .before .before in
     let d = c .before .before .before .before .before .before .action-at .ensures in
     let e = c .before .before .before .before .action .given .1 in
     λ N E b v h z. rw (c .lesser .ensures, c .before .before .first-broken .ensures N E b v h z, c .before .first-broken2 .ensures N E b v h z) (sym (lowest-both _ _) ∙ broken-at N E (s .args .places) (s .pre .1 .0) d e)
@@ -218,7 +218,7 @@ first-broken-returns-2 t c =
 first-broken-returns-3 : (t : ℕ) → first-broken-lts.Need-returns-3 (claims t) (first-broken-at t) first-broken.Post
 unfolding broken node actionLine
 first-broken-returns-3 t c =
-    let s = c .before .before .before .before .before .before in
+    let s = c .before .before .before .before .before in
     let d = c .before .before .before .before .action-at .ensures in
     let e = c .before .before .action2 .given .1 in
     λ N E b v h z. c .first-broken3 .ensures N E b v h z ∙ broken-at N E (s .args .places) (s .pre .1 .0) d e
@@ -226,7 +226,7 @@ first-broken-returns-3 t c =
 first-broken-returns-4 : (t : ℕ) → first-broken-lts.Need-returns-4 (claims t) (first-broken-at t) first-broken.Post
 unfolding node actionLine
 first-broken-returns-4 t c =
-    let s = c .before .before .before .before .before .before .before .before in
+    let s = c .before .before .before .before .before .before .before in
     let d = c .before .before .before .before .before .before .action-at .ensures in
     let e = c .before .before .before .before .action3 .given .1 in
     λ N E b v h z. at-out N E (s .args .places) (s .args .q) _ (c .or-here .ensures) _ _ (c .before .out-rule .ensures E v z) (c .before .before .first-broken4 .ensures N E b v h z) ∙ broken-at N E (s .args .places) (s .pre .1 .0) d e
@@ -234,7 +234,7 @@ first-broken-returns-4 t c =
 first-broken-returns-5 : (t : ℕ) → first-broken-lts.Need-returns-5 (claims t) (first-broken-at t) first-broken.Post
 unfolding node actionLine
 first-broken-returns-5 t c =
-    let s = c .before .before .before .before .before .before .before .before in
+    let s = c .before .before .before .before .before .before .before in
     let d = c .before .before .before .before .before .before .action-at .ensures in
     let e = c .before .before .before .before .action4 .given .1 in
     λ N E b v h z. at-get N E (s .args .places) (s .args .q) _ (c .or-here2 .ensures) 2 _ _ (c .before .get-rule .ensures E v z) (c .before .before .first-broken5 .ensures N E b v h z) ∙ broken-at N E (s .args .places) (s .pre .1 .0) d e
@@ -242,7 +242,7 @@ first-broken-returns-5 t c =
 first-broken-returns-6 : (t : ℕ) → first-broken-lts.Need-returns-6 (claims t) (first-broken-at t) first-broken.Post
 unfolding node actionLine
 first-broken-returns-6 t c =
-    let s = c .before .before .before .before .before .before .before .before in
+    let s = c .before .before .before .before .before .before .before in
     let d = c .before .before .before .before .before .before .action-at .ensures in
     let e = c .before .before .before .before .action5 .given .1 in
     λ N E b v h z. at-get N E (s .args .places) (s .args .q) _ (c .or-here3 .ensures) 4 _ _ (c .before .get-rule2 .ensures E v z) (c .before .before .first-broken6 .ensures N E b v h z) ∙ broken-at N E (s .args .places) (s .pre .1 .0) d e
@@ -250,7 +250,7 @@ first-broken-returns-6 t c =
 first-broken-returns-7 : (t : ℕ) → first-broken-lts.Need-returns-7 (claims t) (first-broken-at t) first-broken.Post
 unfolding node actionLine
 first-broken-returns-7 t c =
-    let s = c .before .before .before .before .before .before .before .before .before .before .before in
+    let s = c .before .before .before .before .before .before .before .before .before .before in
     let d = c .before .before .before .before .before .before .before .before .before .action-at .ensures in
     let e = c .before .before .before .before .before .before .before .action6 .given .1 in
     λ N E b v h z.
@@ -260,7 +260,7 @@ first-broken-returns-7 t c =
 first-broken-returns-8 : (t : ℕ) → first-broken-lts.Need-returns-8 (claims t) (first-broken-at t) first-broken.Post
 unfolding broken node actionLine
 first-broken-returns-8 t c =
-    let s = c .before .before .before .before .before .before in
+    let s = c .before .before .before .before .before in
     let d = c .before .before .before .before .action-at .ensures in
     let e = c .before .before .action7 .given .1 in
     λ N E b v h z. c .first-broken9 .ensures N E b v h z ∙ broken-at N E (s .args .places) (s .pre .1 .0) d e

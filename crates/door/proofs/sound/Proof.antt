@@ -7,7 +7,7 @@ use Rattle.door.proofs.sound.Statement.{statement}
 use Rattle.door.proofs.sound.Tie as tie
 use Rattle.door.proofs.sound.Reads as reads
 use Rattle.door.proofs.sound.Lts as lts
-use Rattle.door.proofs.first_broken.Reads as first-broken-reads
+use Rattle.broken.proofs.first_broken.Reads as first-broken-reads
 use Rattle.report.proofs.adds_nothing.Reads as adds-nothing-reads
 use Rattle.sets.proofs.single.Reads as single-reads
 

@@ -6,7 +6,7 @@ use lib.Dec.{eqb, ltb}
 use lib.ListN.{drop}
 use Rattle.sets.specs.Lists.{_&_, same}
 use Rattle.tables.specs.View.{rowAt}
-use Rattle.matching.specs.Index.{keyOf, words, inRows, Indexed, Low, Long}
+use Rattle.matching.specs.Index.{inColumn, words, inRows, Indexed, Low, Long}
 use Rattle.matching.proofs.Index.{alike-end, alike-down}
 use borrow.Author.Needs.{needs}
 use Rattle.matching.proofs.alike.Statement.{statement}
@@ -25,7 +25,7 @@ abbrev μ-loop : tie.MeasureT-loop
 
 -- src/lib.rt:504:5
 loop-holds : tie.Need-loop-holds Inv-loop μ-loop
-loop-holds c = (omega arith, λ n bs I L F k h. alike-end (c .before .args .tuples .now) bs n (c .before .args .m) (c .before .args .i) k (c .before .pre .0) (c .before .pre .3) (c .before .pre .5) (c .before .pre .4) h L (inRows (words (c .before .args .had)) k) (F k h))
+loop-holds c = (omega arith, λ n bs I L F k h. alike-end (c .args .tuples .now) bs n (c .args .m) (c .args .i) k (c .pre .0) (c .pre .3) (c .pre .5) (c .pre .4) h L (inRows (words (c .args .had)) k) (F k h))
 
 -- src/lib.rt:505:44
 key-requires : tie.Need-key-requires Inv-loop μ-loop
@@ -51,12 +51,12 @@ loop-less c = omega arith
 loop-again : tie.Need-loop-again Inv-loop μ-loop
 loop-again c =
     let at = c .before .before .before .before .loop in
-    let s = c .before .before .before .before .before .before in
+    let s = c .before .before .before .before .before in
     let key = c .before .before .key .ensures in (
       omega arith,
       λ n bs I L F k h.
           c .in-both .ensures k h
-          ∙ ap₂ _&_ (at .inv .1 n bs I L F k h) (c .before .rows-with .ensures k h ∙ I (at .j) _ k (omega arith) (key .1) h ∙ ap (λ (x : ℕ). ltb k n & eqb (keyOf bs (at .j) k) x) (key .0))
+          ∙ ap₂ _&_ (at .inv .1 n bs I L F k h) (c .before .rows-with .ensures k h ∙ I (at .j) _ k (omega arith) (key .1) h ∙ ap (λ (x : ℕ). ltb k n & eqb (inColumn bs (at .j) k) x) (key .0))
           ∙ alike-down (s .args .tuples .now) bs n (s .args .m) (s .args .i) k (s .pre .0) (s .pre .3) (s .pre .5) (s .pre .4) h L (at .j) (omega arith) (at .inv .0) (inRows (words (s .args .had)) k) (F k h),
     )
 
@@ -64,7 +64,7 @@ loop-again c =
 returns : tie.Need-returns Inv-loop μ-loop
 returns c =
     let at = c .before .loop in
-    let s = c .before .before .before in
+    let s = c .before .before in
     let e : at .j ≡ 0 = omega arith in
     λ n bs I L F k h. at .inv .1 n bs I L F k h ∙ ap (λ (x : ℕ). inRows (words (s .args .had)) k & same (drop x (rowAt (s .args .tuples .now) (s .args .i))) (drop x (rowAt bs k))) e
 

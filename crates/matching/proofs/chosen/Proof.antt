@@ -30,7 +30,7 @@ narrowed-requires c κs = search needs
 -- src/lib.rt:395:1
 returns : tie.Need-returns
 returns c =
-    let s = c .before .before .before in
+    let s = c .before .before in
     let five : length (s .args .reaches) ≡ 5 = search needs in
     λ n bs I L i h.
     let had : (k : ℕ) → k < 256 → inRows (words (c .before .rows-with .result)) k ≡ (ltb k n & eqb (length (rowAt bs k)) (s .args .m)) = λ k l. c .before .rows-with .ensures k l ∙ I 0 (s .args .m) k (omega arith) (omega (arith, s .pre .0)) l ∙ ap (λ (x : ℕ). ltb k n & eqb x (s .args .m)) (sym (key-first bs 0 k refl)) in

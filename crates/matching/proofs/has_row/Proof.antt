@@ -27,14 +27,14 @@ row-len-requires c κs = search needs
 -- src/lib.rt:517:9
 rows-with-requires : tie.Need-rows-with-requires
 rows-with-requires c κs =
-    let s = c .before .before in
+    let s = c .before in
     let long = row-long (s .args .tuples .now) (s .args .i) (s .pre .0) (s .pre .2) in
     (omega arith, omega (arith, long, c .row-len .ensures), s .pre .1)
 
 -- src/lib.rt:518:14
 alike-requires : tie.Need-alike-requires
 alike-requires c κs =
-    let s = c .before .before .before in
+    let s = c .before .before in
     let long = row-long (s .args .tuples .now) (s .args .i) (s .pre .0) (s .pre .2) in
     (s .pre .0, omega (arith, long, c .before .row-len .ensures), s .pre .1, s .pre .2, c .before .row-len .ensures, s .pre .3)
 
@@ -46,7 +46,7 @@ some-row-requires c κs = search needs
 returns : tie.Need-returns
 unfolding rowsView
 returns c =
-    let s = c .before .before .before .before .before in
+    let s = c .before .before .before .before in
     let t = rowAt (s .args .tuples .now) (s .args .i) in
     let m = c .before .before .before .row-len .result in
     let is : m ≡ length t = c .before .before .before .row-len .ensures in

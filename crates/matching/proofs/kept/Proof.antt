@@ -2,7 +2,7 @@ use mathlib.Core.Path.{ap, _∙_}
 use mathlib.Core.Bool.{Bool, not}
 use Prim.Native.Nat.{_<_}
 use Rattle.sets.specs.Lists.{_&_}
-use Rattle.matching.specs.Index.{keyOf, words, inRows}
+use Rattle.matching.specs.Index.{inColumn, words, inRows}
 use Rattle.matching.proofs.Index.{kept-some, kept-rest}
 use borrow.Author.Needs.{needs}
 use Rattle.matching.proofs.kept.Statement.{statement}
@@ -24,11 +24,11 @@ in-both-requires c κs = search needs
 -- src/lib.rt:371:9
 returns : tie.Need-returns
 returns c =
-    let s = c .before .before .before .before in
+    let s = c .before .before .before in
     λ n bs I i h k f.
     c .in-both .ensures i h
     ∙ ap (λ (b : Bool). inRows (words (s .args .had)) i & b) (c .before .rows-in .ensures n bs I i h)
-    ∙ kept-some (inRows (words (s .args .had)) i) i n (keyOf bs (s .args .c) i) (s .args .set) f
+    ∙ kept-some (inRows (words (s .args .had)) i) i n (inColumn bs (s .args .c) i) (s .args .set) f
 
 -- src/lib.rt:373:37
 sub-rows-in : tie.Need-sub-rows-in
@@ -45,12 +45,12 @@ in-first-requires c κs = search needs
 -- src/lib.rt:366:1
 returns-2 : tie.Need-returns-2
 returns-2 c =
-    let s = c .before .before .before .before in
+    let s = c .before .before .before in
     let low : s .args .set < 4294967296 = search needs in
     λ n bs I i h k f.
     c .in-first .ensures i h
     ∙ ap (λ (b : Bool). inRows (words (s .args .had)) i & not b) (c .before .rows-in2 .ensures n bs I i h)
-    ∙ kept-rest (inRows (words (s .args .had)) i) i n (keyOf bs (s .args .c) i) (s .args .set) k low f
+    ∙ kept-rest (inRows (words (s .args .had)) i) i n (inColumn bs (s .args .c) i) (s .args .set) k low f
 
 pub kept-spec : {M : Type 1} → statement M
 kept-spec =

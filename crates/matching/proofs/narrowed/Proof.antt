@@ -9,7 +9,7 @@ use Rattle.sets.specs.Bits.{mem}
 use Rattle.sets.proofs.Lists.{and-l}
 use Rattle.klaim.proofs.Choices.{fits}
 use Rattle.tables.specs.View.{rowAt}
-use Rattle.matching.specs.Index.{keyOf, words, inRows, Indexed, Low, Long}
+use Rattle.matching.specs.Index.{inColumn, words, inRows, Indexed, Low, Long}
 use Rattle.matching.proofs.Laws.{Sets}
 use Rattle.matching.proofs.Index.{key-low, narrow-end, narrow-down}
 use borrow.Author.Needs.{needs}
@@ -28,8 +28,8 @@ abbrev μ-loop : tie.MeasureT-loop
 -- src/lib.rt:387:5
 loop-holds : tie.Need-loop-holds Inv-loop μ-loop
 loop-holds c =
-    let five : length (c .before .args .t3) ≡ 5 = search needs in
-    (omega arith, λ n bs I L F i h. narrow-end (c .before .args .t3) bs n (c .before .args .m) i h five (c .before .pre .0) L (inRows (words (c .before .args .had)) i) (F i h))
+    let five : length (c .args .t3) ≡ 5 = search needs in
+    (omega arith, λ n bs I L F i h. narrow-end (c .args .t3) bs n (c .args .m) i h five (c .pre .0) L (inRows (words (c .args .had)) i) (F i h))
 
 -- src/lib.rt:388:9
 sub-j : tie.Need-sub-j Inv-loop μ-loop
@@ -59,14 +59,14 @@ loop-less c = omega arith
 loop-again : tie.Need-loop-again Inv-loop μ-loop
 loop-again c =
     let at = c .before .before .loop in
-    let s = c .before .before .before .before in
+    let s = c .before .before .before in
     let five : length (s .args .t3) ≡ 5 = search needs in (
       omega arith,
       λ n bs I L F i h.
           let had = inRows (words (s .args .had)) i in
           let e = at .inv .1 n bs I L F i h in
           c .kept .ensures n bs I i h (key-low bs (at .j - 1) i) (λ t. F i h (and-l had _ (sym e ∙ t)) .0)
-          ∙ ap (λ (b : Bool). b & mem (keyOf bs (at .j - 1 + 1) i) (getD (s .args .t3) (at .j - 1) 0)) e
+          ∙ ap (λ (b : Bool). b & mem (inColumn bs (at .j - 1 + 1) i) (getD (s .args .t3) (at .j - 1) 0)) e
           ∙ narrow-down (s .args .t3) bs n (s .args .m) i h five (s .pre .0) L (at .j) (omega arith) (omega arith) had (F i h),
     )
 
@@ -74,7 +74,7 @@ loop-again c =
 returns : tie.Need-returns Inv-loop μ-loop
 returns c =
     let at = c .before .loop in
-    let s = c .before .before .before in
+    let s = c .before .before in
     let e : at .j ≡ 0 = omega arith in
     λ n bs I L F i h. at .inv .1 n bs I L F i h ∙ ap (λ (k : ℕ). inRows (words (s .args .had)) i & fits (drop k (Sets (s .args .t3) (s .args .m))) (drop k (rowAt bs i))) e
 

@@ -7,7 +7,7 @@ use lib.Dec.{ltb}
 use lib.Count.{trailingZeros}
 use Rattle.sets.specs.Lists.{_&_, either}
 use Rattle.sets.specs.Bits.{mem}
-use Rattle.matching.specs.Index.{keyOf, words, inRows, Indexed}
+use Rattle.matching.specs.Index.{inColumn, words, inRows, Indexed}
 use Rattle.matching.proofs.Index.{no-rows, turn-none, turn, turn-end, next-low, rest-less, rest-within}
 use borrow.Author.Needs.{needs}
 use Rattle.matching.proofs.rows_in.Statement.{statement}
@@ -18,7 +18,7 @@ use Rattle.matching.proofs.in_either.Reads as in-either-reads
 use Rattle.matching.proofs.rows_with.Reads as rows-with-reads
 
 abbrev Inv-loop : tie.InvT-loop
-Inv-loop index c set r₀ rest₀ r rest = (rest < 4294967296) × ((u : ℕ) → mem u rest ≡ true → mem u set ≡ true) × ((n : ℕ) (bs : List ℕ) → Indexed n bs index → (i : ℕ) → i < 256 → inRows (words r) i ≡ (ltb i n & (mem (keyOf bs c i) set & not (mem (keyOf bs c i) rest))))
+Inv-loop index c set r₀ rest₀ r rest = (rest < 4294967296) × ((u : ℕ) → mem u rest ≡ true → mem u set ≡ true) × ((n : ℕ) (bs : List ℕ) → Indexed n bs index → (i : ℕ) → i < 256 → inRows (words r) i ≡ (ltb i n & (mem (inColumn bs c i) set & not (mem (inColumn bs c i) rest))))
 
 abbrev μ-loop : tie.MeasureT-loop
 μ-loop index c set r₀ rest₀ r rest = rest
@@ -27,21 +27,21 @@ abbrev μ-loop : tie.MeasureT-loop
 loop-holds : tie.Need-loop-holds Inv-loop μ-loop
 unfolding words
 loop-holds c =
-    let low : c .before .args .set < 4294967296 = search needs in
-    (low, λ u t. t, λ n bs I i h. no-rows i ∙ turn-none n (keyOf bs (c .before .args .c) i) i (c .before .args .set))
+    let low : c .args .set < 4294967296 = search needs in
+    (low, λ u t. t, λ n bs I i h. no-rows i ∙ turn-none n (inColumn bs (c .args .c) i) i (c .args .set))
 
 -- the next site is below 32
 next : (c : lts.In-loop (rows-with-reads.Asked, rows-with-reads.Learnt, in-either-reads.Asked, in-either-reads.Learnt) reads.Pre reads.Post Inv-loop μ-loop) → trailingZeros 32 (c .before .loop .rest) < 32
 next c =
     let at = c .before .loop in
-    next-low (c .before .before .before .args .set) (at .rest) (c .loop-test .taken) (at .inv .0) (at .inv .1)
+    next-low (c .before .before .args .set) (at .rest) (c .loop-test .taken) (at .inv .0) (at .inv .1)
 
 cast-rows-with : tie.Need-cast-rows-with Inv-loop μ-loop
 cast-rows-with c = let low = next c in search needs
 
 -- src/lib.rt:346:26
 rows-with-requires : tie.Need-rows-with-requires Inv-loop μ-loop
-rows-with-requires c κs = let s = c .before .before .before in (s .pre .0, next c, s .pre .1)
+rows-with-requires c κs = let s = c .before .before in (s .pre .0, next c, s .pre .1)
 
 -- src/lib.rt:346:9
 in-either-requires : tie.Need-in-either-requires Inv-loop μ-loop
@@ -55,13 +55,13 @@ sub-rest c = search needs
 loop-less : tie.Need-loop-less Inv-loop μ-loop
 loop-less c =
     let at = c .before .before .before .loop in
-    rest-less (c .before .before .before .before .before .args .set) (at .rest) (c .before .before .loop-test .taken) (at .inv .0) (at .inv .1)
+    rest-less (c .before .before .before .before .args .set) (at .rest) (c .before .before .loop-test .taken) (at .inv .0) (at .inv .1)
 
 -- src/lib.rt:344:5
 loop-again : tie.Need-loop-again Inv-loop μ-loop
 loop-again c =
     let at = c .before .before .before .loop in
-    let s = c .before .before .before .before .before in
+    let s = c .before .before .before .before in
     let some = c .before .before .loop-test .taken in
     let less = rest-less (s .args .set) (at .rest) some (at .inv .0) (at .inv .1) in (
       omega (arith, less, at .inv .0),
@@ -69,15 +69,15 @@ loop-again c =
       λ n bs I i h.
           c .in-either .ensures i h
           ∙ ap₂ either (at .inv .2 n bs I i h) (c .before .rows-with .ensures i h ∙ I (s .args .c) _ i (s .pre .0) (next (c .before .before)) h)
-          ∙ turn (s .args .set) (at .rest) some (at .inv .0) (at .inv .1) n (keyOf bs (s .args .c) i) i,
+          ∙ turn (s .args .set) (at .rest) some (at .inv .0) (at .inv .1) n (inColumn bs (s .args .c) i) i,
     )
 
 -- src/lib.rt:333:1
 returns : tie.Need-returns Inv-loop μ-loop
 returns c =
     let at = c .before .loop in
-    let s = c .before .before .before in
-    λ n bs I i h. at .inv .2 n bs I i h ∙ turn-end (s .args .set) (at .rest) (c .loop-test .left) n (keyOf bs (s .args .c) i) i
+    let s = c .before .before in
+    λ n bs I i h. at .inv .2 n bs I i h ∙ turn-end (s .args .set) (at .rest) (c .loop-test .left) n (inColumn bs (s .args .c) i) i
 
 pub rows-in-spec : {M : Type 1} → statement M
 rows-in-spec =

@@ -27,8 +27,8 @@ mul-a : tie.Need-mul-a
 mul-a c = search needs
 
 -- src/lib.rt:303:13
-shared-slice-read-a : tie.Need-shared-slice-read-a
-shared-slice-read-a c = search needs
+element-copy-out-a : tie.Need-element-copy-out-a
+element-copy-out-a c = search needs
 
 -- src/lib.rt:304:19
 add-b : tie.Need-add-b
@@ -39,8 +39,8 @@ mul-b : tie.Need-mul-b
 mul-b c = search needs
 
 -- src/lib.rt:304:13
-shared-slice-read-b : tie.Need-shared-slice-read-b
-shared-slice-read-b c = search needs
+element-copy-out-b : tie.Need-element-copy-out-b
+element-copy-out-b c = search needs
 
 -- src/lib.rt:305:19
 add-c : tie.Need-add-c
@@ -51,8 +51,8 @@ mul-c : tie.Need-mul-c
 mul-c c = search needs
 
 -- src/lib.rt:305:13
-shared-slice-read-c : tie.Need-shared-slice-read-c
-shared-slice-read-c c = search needs
+element-copy-out-c : tie.Need-element-copy-out-c
+element-copy-out-c c = search needs
 
 -- src/lib.rt:306:19
 add-d : tie.Need-add-d
@@ -63,8 +63,8 @@ mul-d : tie.Need-mul-d
 mul-d c = search needs
 
 -- src/lib.rt:306:13
-shared-slice-read-d : tie.Need-shared-slice-read-d
-shared-slice-read-d c = search needs
+element-copy-out-d : tie.Need-element-copy-out-d
+element-copy-out-d c = search needs
 
 -- src/lib.rt:298:1
 returns : tie.Need-returns
@@ -81,14 +81,14 @@ rows-with-spec =
     mul-at-2
     add-at
     mul-a
-    shared-slice-read-a
+    element-copy-out-a
     add-b
     mul-b
-    shared-slice-read-b
+    element-copy-out-b
     add-c
     mul-c
-    shared-slice-read-c
+    element-copy-out-c
     add-d
     mul-d
-    shared-slice-read-d
+    element-copy-out-d
     returns)

@@ -2,7 +2,7 @@ use lib.ListN.{take}
 use Rattle.tables.specs.View.{fieldBytes}
 use mathlib.Core.Path.{_∙_}
 use borrow.Author.Needs.{needs}
-use Rattle.rules.proofs.Sets.{get-law}
+use Rattle.rules.proofs.Sets.{sized-low, get-law}
 use Rattle.rules.proofs.get_rule.Statement.{statement}
 use Rattle.rules.proofs.get_rule.Tie as tie
 use Rattle.rules.proofs.get_rule.Reads as reads
@@ -30,8 +30,8 @@ every-bound-requires c κs = search needs
 -- src/lib.rt:117:1
 returns : tie.Need-returns
 returns c =
-    let s = c .before .before .before .before in
-    λ E e w. c .every-bound .ensures ∙ get-law E (s .args .places) (s .args .target) (take (s .args .count) (fieldBytes (s .args .lines .now) (s .args .q))) _ _ _ w (s .pre .3 .low) (c .before .before .want-sets .ensures E e) (c .before .allow-sets .ensures E e)
+    let s = c .before .before .before in
+    λ E e w. c .every-bound .ensures (w .count) (w .bytes) (w .made) (sized-low (w .sized)) ∙ get-law E (s .args .places) (s .args .target) (take (s .args .count) (fieldBytes (s .args .lines .now) (s .args .q))) _ _ _ (w .rows) (w .sized .low) (c .before .before .want-sets .ensures E e) (c .before .allow-sets .ensures E e)
 
 pub get-rule-spec : {M : Type 1} → statement M
 get-rule-spec =

@@ -2,7 +2,7 @@ use lib.ListN.{take}
 use Rattle.tables.specs.View.{fieldBytes}
 use mathlib.Core.Path.{_∙_}
 use borrow.Author.Needs.{needs}
-use Rattle.rules.proofs.Sets.{out-law}
+use Rattle.rules.proofs.Sets.{sized-low, out-law}
 use Rattle.rules.proofs.out_rule.Statement.{statement}
 use Rattle.rules.proofs.out_rule.Tie as tie
 use Rattle.rules.proofs.out_rule.Reads as reads
@@ -25,8 +25,8 @@ every-choice-requires c κs = search needs
 -- src/lib.rt:98:1
 returns : tie.Need-returns
 returns c =
-    let s = c .before .before .before in
-    λ E e w. c .every-choice .ensures ∙ out-law E (s .args .places) (s .args .target) (take (s .args .count) (fieldBytes (s .args .lines .now) (s .args .q))) _ _ w (c .before .out-sets .ensures E e)
+    let s = c .before .before in
+    λ E e w. c .every-choice .ensures (w .count) (w .bytes) (w .made) (sized-low (w .sized)) (w .sized .alone) ∙ out-law E (s .args .places) (s .args .target) (take (s .args .count) (fieldBytes (s .args .lines .now) (s .args .q))) _ _ (w .rows) (c .before .out-sets .ensures E e)
 
 pub out-rule-spec : {M : Type 1} → statement M
 out-rule-spec = tie.close (tie.spec out-sets-requires add-m every-choice-requires returns)

@@ -7,7 +7,8 @@ use Rattle.sets.specs.Lists.{concat, table}
 use Rattle.klaim.specs.Process.{tree}
 use Rattle.klaim.specs.Net.{Root, Net, Estimate}
 use Rattle.klaim.specs.Analysis.{broken, placeSet, process}
-use Rattle.tables.specs.View.{rootAt, rootsView, linesView, rowsView}
+use Rattle.tables.specs.View.{rootAt, rootsView, linesView}
+use Rattle.rules.specs.Masks.{IndexOf}
 use Rattle.broken.specs.Lowest.{lowest}
 use Rattle.verdict.proofs.Laws.{least-end, least-down, root-broken}
 use borrow.Author.Needs.{needs}
@@ -20,14 +21,14 @@ use Rattle.broken.proofs.lesser.Reads as lesser-reads
 use Rattle.sets.proofs.single.Reads as single-reads
 
 abbrev Inv-loop : tie.InvT-loop
-Inv-loop roots nroots lines nlines boxes binds hold rows n index r₀ i₀ r i = (i ≤ nroots) × ((N : Net) (E : Estimate) → N .boxes ≡ boxes → N .lines ≡ linesView nlines lines → E .binds ≡ binds → E .hold ≡ hold → E .stand ≡ rowsView n rows → r ≡ lowest (concat (λ x. broken N E (placeSet (x .site)) (process N x)) (drop i (table nroots (rootAt roots)))))
+Inv-loop roots nroots lines nlines boxes binds hold index r₀ i₀ r i = (i ≤ nroots) × ((N : Net) (E : Estimate) → N .boxes ≡ boxes → N .lines ≡ linesView nlines lines → E .binds ≡ binds → E .hold ≡ hold → IndexOf E index → r ≡ lowest (concat (λ x. broken N E (placeSet (x .site)) (process N x)) (drop i (table nroots (rootAt roots)))))
 
 abbrev μ-loop : tie.MeasureT-loop
-μ-loop roots nroots lines nlines boxes binds hold rows n index r₀ i₀ r i = i
+μ-loop roots nroots lines nlines boxes binds hold index r₀ i₀ r i = i
 
 -- src/lib.rt:81:5
 loop-holds : tie.Need-loop-holds Inv-loop μ-loop
-loop-holds c = (omega arith, λ N E b l v h z. least-end (λ x. broken N E (placeSet (x .site)) (process N x)) (c .before .args .nroots) (rootAt (c .before .args .roots .now)))
+loop-holds c = (omega arith, λ N E b l v h z. least-end (λ x. broken N E (placeSet (x .site)) (process N x)) (c .args .nroots) (rootAt (c .args .roots .now)))
 
 -- src/lib.rt:82:9
 sub-i : tie.Need-sub-i Inv-loop μ-loop
@@ -44,7 +45,7 @@ element-copy-out-single c = search needs
 -- src/lib.rt:83:13
 single-requires : tie.Need-single-requires Inv-loop μ-loop
 single-requires c κs =
-    let s = c .before .before .before .before in
+    let s = c .before .before .before in
     s .pre .0 .placed (c .before .before .loop .i - 1) (omega arith)
 
 -- src/lib.rt:84:96
@@ -62,9 +63,9 @@ element-copy-out-first-broken c = search needs
 -- src/lib.rt:84:13
 first-broken-requires : tie.Need-first-broken-requires Inv-loop μ-loop
 first-broken-requires c κs =
-    let s = c .before .before .before .before .before .before in
+    let s = c .before .before .before .before .before in
     let at = c .before .before .before .before .loop in
-    (record { inOrder = s .pre .0 .inOrder; present = s .pre .0 .present (at .i - 1) (omega arith) }, (s .pre .1, (s .pre .2, s .pre .3)))
+    (record { inOrder = s .pre .0 .inOrder; present = s .pre .0 .present (at .i - 1) (omega arith) }, (s .pre .1, s .pre .2))
 
 -- src/lib.rt:85:9
 lesser-requires : tie.Need-lesser-requires Inv-loop μ-loop
@@ -78,7 +79,7 @@ loop-less c = omega arith
 loop-again : tie.Need-loop-again Inv-loop μ-loop
 loop-again c =
     let at = c .before .before .before .before .before .before .loop in
-    let s = c .before .before .before .before .before .before .before .before in (
+    let s = c .before .before .before .before .before .before .before in (
       omega arith,
       λ N E b l v h z.
           let F : Root → List ℕ = λ x. broken N E (placeSet (x .site)) (process N x) in
@@ -93,7 +94,7 @@ returns : tie.Need-returns Inv-loop μ-loop
 unfolding rootsView
 returns c =
     let at = c .before .loop in
-    let s = c .before .before .before in
+    let s = c .before .before in
     let e : at .i ≡ 0 = omega arith in
     λ N E b l v h z. at .inv .1 N E b l v h z ∙ ap (λ (k : ℕ). lowest (concat (λ x. broken N E (placeSet (x .site)) (process N x)) (drop k (table (s .args .nroots) (rootAt (s .args .roots .now)))))) e
 

@@ -30,7 +30,7 @@ loop-holds c = (omega arith, λ n bs I L k h. absurd (omega arith))
 has-row-requires : tie.Need-has-row-requires Inv-loop μ-loop
 unfolding rowsView
 has-row-requires c κs =
-    let s = c .before .before .before in
+    let s = c .before .before in
     (omega arith, s .pre .3, s .pre .1, table-all (allBelow 32) (s .args .count) (rowAt (s .args .tuples .now)) (s .pre .2) (c .before .loop .i) (omega arith))
 
 add-i : tie.Need-add-i Inv-loop μ-loop
@@ -42,21 +42,21 @@ loop-less c = omega arith
 loop-again : tie.Need-loop-again Inv-loop μ-loop
 loop-again c =
     let at = c .before .before .before .loop in
-    let ar = c .before .before .before .before .before .args in
+    let ar = c .before .before .before .before .args in
     (omega arith, λ n bs I L. below-more (λ k. has n bs (rowAt (ar .tuples .now) k) ≡ true) (at .i) (at .inv .1 n bs I L) (sym (c .before .has-row .ensures n bs I L) ∙ c .if1 .taken))
 
 returns : tie.Need-returns Inv-loop μ-loop
 unfolding rowsView
 returns c =
     let at = c .before .before .before .loop in
-    let ar = c .before .before .before .before .before .args in
+    let ar = c .before .before .before .before .args in
     (λ n bs I L. table-at (has n bs) (ar .count) (rowAt (ar .tuples .now)) (at .i) (at .inv .1 n bs I L) (omega arith) (sym (c .before .has-row .ensures n bs I L) ∙ c .if1 .left), omega arith)
 
 returns-2 : tie.Need-returns-2 Inv-loop μ-loop
 unfolding rowsView
 returns-2 c =
     let at = c .before .loop in
-    let ar = c .before .before .before .args in
+    let ar = c .before .before .args in
     let e : at .i ≡ ar .count = omega arith in
     (λ n bs I L. table-none (has n bs) (ar .count) (rowAt (ar .tuples .now)) (at .i) (at .inv .1 n bs I L) e, omega arith)
 

@@ -18,17 +18,9 @@ use Rattle.verdict.proofs.first_missing.Reads as first-missing-reads
 fill-requires : tie.Need-fill-requires
 fill-requires c κs = search needs
 
--- src/lib.rt:110:44
-slice-aggregate-first-missing : tie.Need-slice-aggregate-first-missing
-slice-aggregate-first-missing c = search needs
-
 -- src/lib.rt:110:9
 first-missing-requires : tie.Need-first-missing-requires
 first-missing-requires c κs = search needs
-
--- src/lib.rt:121:9
-slice-aggregate-first-line : tie.Need-slice-aggregate-first-line
-slice-aggregate-first-line c = search needs
 
 -- src/lib.rt:111:9
 first-line-requires : tie.Need-first-line-requires
@@ -52,16 +44,14 @@ returns c =
     let s = c .before .before .before .before .before .before .before in
     let made = c .before .before .before .before .before .fill .ensures .0 in
     let low : Low (s .args .n) (s .args .rows .now) = search needs in
-    λ N E t. c .decide .ensures ∙ verdict-is N E _ _ _ _ _ _ (omega (arith, ap length (t .linesIs) ∙ length-view (s .args .nlines) (s .args .lines .now), s .pre .linesFew)) (t .tuplesIs) (t .standIs) (t .rootsIs) (c .before .before .before .first-missing .ensures .0 (s .args .n) (s .args .rows .now) made low) (c .before .first-line .ensures N E (t .boxesIs) (t .linesIs) (t .bindsIs) (t .holdIs) (t .standIs))
+    λ N E t. c .decide .ensures ∙ verdict-is N E _ _ _ _ _ _ (omega (arith, ap length (t .linesIs) ∙ length-view (s .args .nlines) (s .args .lines .now), s .pre .linesFew)) (t .tuplesIs) (t .standIs) (t .rootsIs) (c .before .before .before .first-missing .ensures .0 (s .args .n) (s .args .rows .now) made low) (c .before .first-line .ensures N E (t .boxesIs) (t .linesIs) (t .bindsIs) (t .holdIs) (record { count = s .args .n; bytes = s .args .rows .now; rows = t .standIs; sized = s .pre .sized; made = made }))
 
 pub judge-spec : {M : Type 1} → statement M
 judge-spec =
     tie.close
     (tie.spec
     fill-requires
-    slice-aggregate-first-missing
     first-missing-requires
-    slice-aggregate-first-line
     first-line-requires
     cast-decide
     cast-decide-2
