@@ -140,7 +140,7 @@ impl UseMap {
     }
 
     // What sandbox k gives, evaluated at any of the places.
-    fn of_box(boxes: &[u8; 1056], k: u8, places: u32) -> UseMap
+    pub fn of_box(boxes: &[u8; 1056], k: u8, places: u32) -> UseMap
         requires { ⌜ k < 32 ⌝ }
         ensures { λ r. ⌜ ((N : Net) → N .boxes ≡ now (boxes .entry) → r .rights ≡ table 32 (λ s. joins (λ l. boxAt N k l s) (sites places))) ⌝ }
     {

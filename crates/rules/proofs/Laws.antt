@@ -3,10 +3,10 @@
 use mathlib.Core.Path.{_≡_, refl, sym, ap, _∙_}
 use mathlib.Core.Bool.{Bool, true, false}
 use mathlib.Core.List.{List, [], _∷_}
-use Prim.Native.Nat.{ℕ, zero, suc, _+_, _-_, _*_, _<_, _≤_}
+use Prim.Native.Nat.{ℕ, suc, _+_, _-_, _*_, _<_, _≤_}
 use native.Mathlib.Omega.{arith}
 use lib.ListN.{getD}
-use Rattle.sets.specs.Lists.{Elem, _&_, imp, all, only, keep, _∪_, tableFrom, table, below}
+use Rattle.sets.specs.Lists.{_&_, imp, all, only, keep, _∪_, tableFrom, table, below}
 use Rattle.sets.specs.Bits.{mem, sites, within, joins}
 use Rattle.sets.proofs.Lists.{all-at, all-i, all-same, iff}
 use Rattle.sets.proofs.Tables.{getD-table, in-below}

@@ -3,12 +3,11 @@
 use mathlib.Core.Path.{_≡_, refl, sym, ap, ap₂, subst, _∙_}
 use mathlib.Core.Bool.{Bool, true, false}
 use mathlib.Core.List.{List, [], _∷_, _++_, map}
-use Prim.Native.Nat.{ℕ, zero, suc, _+_, _*_, _<_, _≤_}
+use Prim.Native.Nat.{ℕ, suc, _+_, _<_}
 use native.Mathlib.Omega.{arith}
-use lib.Dec.{ltb}
-use lib.ListN.{length, getD, take, drop, set, length-take, length-drop}
+use lib.ListN.{length, getD, take, set}
 use lib.Seq.{take-suc, take-suc-set}
-use Rattle.sets.specs.Lists.{Elem, first, later, _&_, imp, all, any, tableFrom, table, below, same, among}
+use Rattle.sets.specs.Lists.{_&_, imp, all, any, tableFrom, table, below, same, among}
 use Rattle.sets.specs.Bits.{has, mem, sites}
 use Rattle.sets.proofs.Lists.{and-l, and-r, all-at, all-same, ltb-lt, map-append}
 use Rattle.sets.proofs.Tables.{below-in}
@@ -20,10 +19,11 @@ use Rattle.klaim.specs.Net.{Estimate, may}
 use Rattle.klaim.specs.Analysis.{reach, reached, slotMatch, matches, choices, stands, bound, outRule, getRule}
 use Rattle.klaim.specs.Invariant.{allBelow}
 use Rattle.klaim.proofs.Choices.{fits}
-use Rattle.tables.specs.View.{fieldBytes, locOf, slotOf, LowSlot}
+use Rattle.tables.specs.View.{locOf, slotOf, LowSlot}
 use Rattle.matching.specs.Index.{Low}
 use Rattle.matching.proofs.Laws.{among-low}
-use Rattle.rules.specs.Masks.{anySite, wanted, allowed, Sized}
+use Rattle.rules.specs.Masks.{anySite, wanted, allowed, fieldSet, Sized}
+use Rattle.rules.specs.declared.Ask.the-variants.{Reach, Wanted, Allowed}
 
 -- distinct rows of sites are rows of sites
 pub sized-low : {n : ℕ} {bs : List ℕ} → Sized n bs → Low n bs
@@ -42,10 +42,6 @@ sets-more F x fs r j v four five low e w =
 
     after : j + 1 + 1 ≡ suc (j + 1)
     after = omega arith
-
-pub sets-done : (F : ℕ → ℕ) {x y : ℕ} (fs r : List ℕ) {j n : ℕ} → j ≡ n → x ≡ y → take (j + 1) r ≡ x ∷ map F (take j fs) → take (n + 1) r ≡ y ∷ map F (take n fs)
-sets-done F {x} {y} fs r {j} {n} k e h =
-    ap (λ (i : ℕ). take (i + 1) r) (sym k) ∙ h ∙ ap₂ (λ (z : ℕ) (i : ℕ). z ∷ map F (take i fs)) e k
 
 -- what a slot wants and allows, as the code tells
 module _ {s : Slot} where
@@ -68,20 +64,17 @@ module _ {s : Slot} where
   unfolding allowed may
   allowed-bind E bs b e = rw (e, b)
 
-pub wanted-target : (E : Estimate) (P : ℕ) (x : Loc) → reach E P x ≡ wanted E P (Value x)
-unfolding wanted
-wanted-target E P x = refl
-
 -- out
-reach-sets : (E : Estimate) (P : ℕ) (cs : List ℕ) → map sites (map (λ c. reach E P (locOf c)) cs) ≡ map (reached E P) (map locOf cs)
+reach-sets : (E : Estimate) (P : ℕ) (cs : List ℕ) → map sites (map (fieldSet E P Reach) cs) ≡ map (reached E P) (map locOf cs)
+unfolding fieldSet
 reach-sets E P [] = refl
 reach-sets E P (c ∷ cs) = ap (λ (l : List (List ℕ)). sites (reach E P (locOf c)) ∷ l) (reach-sets E P cs)
 
-pub out-law : (E : Estimate) (P : ℕ) (g : Loc) (cs ms : List ℕ) (rows : List (List ℕ)) → E .stand ≡ rows → ms ≡ reach E P g ∷ map (λ c. reach E P (locOf c)) cs → choices (map sites ms) (λ t. any (same t) rows) ≡ outRule E P g (map locOf cs)
+pub out-law : (E : Estimate) (P : ℕ) (g : Loc) (cs ms : List ℕ) (rows : List (List ℕ)) {x : ℕ} → E .stand ≡ rows → x ≡ reach E P g → ms ≡ x ∷ map (fieldSet E P Reach) cs → choices (map sites ms) (λ t. any (same t) rows) ≡ outRule E P g (map locOf cs)
 unfolding outRule stands
-out-law E P g cs ms rows e m =
+out-law E P g cs ms rows e x m =
     ap₂ (λ (l : List ℕ) (r : List (List ℕ)). choices (map sites l) (λ t. any (same t) r)) m (sym e)
-    ∙ ap (λ (l : List (List ℕ)). choices (sites (reach E P g) ∷ l) (λ t. any (same t) (E .stand))) (reach-sets E P cs)
+    ∙ ap₂ (λ (y : ℕ) (l : List (List ℕ)). choices (sites y ∷ l) (λ t. any (same t) (E .stand))) x (reach-sets E P cs)
 
 -- in, read
 every-site : all (λ v. mem v anySite) (below 32) ≡ true
@@ -125,16 +118,16 @@ module _ (E : Estimate) (P : ℕ) where
   slot-sets F [] = refl
   slot-sets F (c ∷ cs) = ap (λ (l : List ℕ). F (slotOf c) ∷ l) (slot-sets F cs)
 
-  pub get-law : (g : Loc) (cs want allow : List ℕ) (rows : List (List ℕ)) → E .stand ≡ rows → all (allBelow 32) rows ≡ true → want ≡ wanted E P (Value g) ∷ map (λ c. wanted E P (slotOf c)) cs → allow ≡ anySite ∷ map (λ c. allowed E (slotOf c)) cs → all (λ row. imp (fits (map sites want) row) (fits (map sites allow) row)) rows ≡ getRule E P g (map slotOf cs)
-  unfolding getRule
-  get-law g cs want allow rows e low w a =
+  pub get-law : (g : Loc) (cs want allow : List ℕ) (rows : List (List ℕ)) {x : ℕ} → E .stand ≡ rows → all (allBelow 32) rows ≡ true → x ≡ reach E P g → want ≡ x ∷ map (fieldSet E P Wanted) cs → allow ≡ anySite ∷ map (fieldSet E P Allowed) cs → all (λ row. imp (fits (map sites want) row) (fits (map sites allow) row)) rows ≡ getRule E P g (map slotOf cs)
+  unfolding getRule wanted allowed fieldSet
+  get-law g cs want allow rows e low x w a =
       all-same _ _ rows (λ row i. sym (imp-same
       (matches-fits (Value g ∷ map slotOf cs) row (all-at (allBelow 32) i low) ∙ ap (λ (l : List ℕ). fits (map sites l) row) wants)
       (λ m. bound-fits (λ x v. mem v (reach E P x)) (Value g ∷ map slotOf cs) row m (all-at (allBelow 32) i low) ∙ ap (λ (l : List ℕ). fits (map sites l) row) allows)))
       ∙ ap (all (λ row. imp (matches (λ x v. mem v (reach E P x)) (Value g ∷ map slotOf cs) row) (bound E (Value g ∷ map slotOf cs) row))) (sym e)
     where
       wants : map (wanted E P) (Value g ∷ map slotOf cs) ≡ want
-      wants = ap (λ (l : List ℕ). wanted E P (Value g) ∷ l) (slot-sets (wanted E P) cs) ∙ sym w
+      wants = ap₂ (λ (y : ℕ) (l : List ℕ). y ∷ l) (sym x) (slot-sets (wanted E P) cs) ∙ sym w
 
       allows : map (allowed E) (Value g ∷ map slotOf cs) ≡ allow
-      allows = ap₂ (λ (x : ℕ) (l : List ℕ). x ∷ l) (sym (allowed-value E refl)) (slot-sets (allowed E) cs) ∙ sym a
+      allows = ap (λ (l : List ℕ). anySite ∷ l) (slot-sets (allowed E) cs) ∙ sym a

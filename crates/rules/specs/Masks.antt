@@ -13,8 +13,10 @@ use Rattle.klaim.specs.declared.Slot.the-variants.{Value, Bind}
 use Rattle.klaim.specs.Net.{Estimate, may}
 use Rattle.klaim.specs.Analysis.{reach}
 use Rattle.klaim.specs.Invariant.{allBelow, distinct}
-use Rattle.tables.specs.View.{rowsView}
+use Rattle.tables.specs.View.{rowsView, locOf, slotOf}
 use Rattle.matching.specs.Index.{Indexed}
+use Rattle.rules.specs.declared.Ask.{Ask}
+use Rattle.rules.specs.declared.Ask.the-variants.{Reach, Wanted, Allowed}
 
 -- all sites
 abbrev pub anySite : ℕ
@@ -29,6 +31,12 @@ wanted E P (Bind u) = anySite
 unfoldable pub allowed : Estimate → Slot → ℕ
 allowed E (Value x) = anySite
 allowed E (Bind u) = may E (u .0)
+
+-- the set for a field, given by its byte, by what is asked of it
+unfoldable pub fieldSet : Estimate → ℕ → Ask → ℕ → ℕ
+fieldSet E P Reach c = reach E P (locOf c)
+fieldSet E P Wanted c = wanted E P (slotOf c)
+fieldSet E P Allowed c = allowed E (slotOf c)
 
 -- a table of A rows as the reader leaves it: at most 256, of sites, no two alike
 pub record Sized (n : ℕ) (bs : List ℕ) : Type 0 where

@@ -16,8 +16,8 @@ Inv-loop boxes hold set k need ok₀ l₀ ok l = (l ≤ 32) × ((E : Estimate) �
 abbrev μ-loop : tie.MeasureT-loop
 μ-loop boxes hold set k need ok₀ l₀ ok l = l
 
-needed-requires : tie.Need-needed-requires Inv-loop μ-loop
-needed-requires c κs = search needs
+of-box-requires : tie.Need-of-box-requires Inv-loop μ-loop
+of-box-requires c κs = search needs
 
 loop-holds : tie.Need-loop-holds Inv-loop μ-loop
 loop-holds c = (omega arith, λ E e. sym (all-end _))
@@ -37,14 +37,14 @@ loop-less c = search needs
 loop-again : tie.Need-loop-again Inv-loop μ-loop
 loop-again c =
     let at = c .before .before .before .loop in
-    let ar = c .before .before .before .before .before .args in
-    let need = c .before .before .before .before .needed .result in
+    let ar = c .before .before .before .before .before .before .args in
+    let need = c .before .before .before .before .before .of-box .result .rights in
     (omega arith, λ E e. rw (c .both .ensures, c .before .held .ensures E e, at .inv .1 E e) (sym (all-down (λ l. imp (mem l (ar .set)) (all (λ t. within (getD need t 0) (holds E l t)) (below 32))) (at .l) (omega arith) (omega arith))))
 
 returns : tie.Need-returns Inv-loop μ-loop
 returns c =
     let e : c .before .loop .l ≡ 0 = omega arith in
-    λ N E P g b h q. rw e at (c .before .loop .inv .1 E h) ∙ all-sites _ _ ∙ eval-rule-at N E P g _ _ _ (c .before .before .needed .ensures N b) q
+    λ N E P g b h q. rw e at (c .before .loop .inv .1 E h) ∙ all-sites _ _ ∙ eval-rule-at N E P g _ _ _ (c .before .before .before .of-box .ensures N b) q
 
 pub eval-rule-spec : {M : Type 1} → statement M
 eval-rule-spec =
@@ -52,7 +52,7 @@ eval-rule-spec =
     (tie.spec
     Inv-loop
     μ-loop
-    needed-requires
+    of-box-requires
     loop-holds
     sub-l
     held-requires
