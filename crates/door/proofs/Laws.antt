@@ -1,15 +1,16 @@
 -- Laws of the door as the code tests it.
 -- Assumes nothing.
-use mathlib.Core.Path.{_≡_, refl, sym, ap, ap₂, _∙_}
+use mathlib.Core.Path.{_≡_, refl, sym, ap, _∙_}
 use mathlib.Core.Bool.{Bool, true, false}
 use mathlib.Core.List.{List, [], _∷_}
-use Prim.Native.Nat.{ℕ, _<_, _≤_, _^_, min}
+use Prim.Native.Nat.{ℕ, _<_, _≤_, _^_}
 use native.Mathlib.Omega.{arith}
 use lib.ListN.{length, getD}
-use Rattle.sets.specs.Lists.{Elem, All, done, more, _&_, all, empty, below, table}
+use Rattle.sets.specs.Lists.{All, more, _&_, all, empty, below, table}
 use Rattle.sets.specs.Bits.{within}
 use Rattle.sets.proofs.Lists.{All-turn, all-same}
 use Rattle.sets.proofs.Tables.{getD-table, in-below}
+use Rattle.sets.proofs.Shared.{and-first}
 use Rattle.klaim.specs.Process.{Line, Tree, tree}
 use Rattle.klaim.specs.Net.{Net, Estimate, boxAt}
 use Rattle.klaim.specs.Analysis.{placeSet, broken}
@@ -33,10 +34,6 @@ unfolding empty lowest
 lowest-full [] h = absurd (h refl)
 lowest-full (x ∷ xs) h = refl
 
-and-front : {a b : Bool} → a ≡ true → b ≡ (a & b)
-unfolding _&_
-and-front e = rw e
-
 -- the tests that the sandbox plays no part in
 module _ (N : Net) (E : Estimate) (l : ℕ) (ls : List Line) (q : ℕ) {P b : ℕ} (p : P ≡ 2 ^ l) (e : b ≡ lowest (broken N E P (tree ls q))) where
   pub sound-broken : (b ≡ 256 → ⊥) → false ≡ sound N E l (tree ls q)
@@ -48,7 +45,7 @@ module _ (N : Net) (E : Estimate) (l : ℕ) (ls : List Line) (q : ℕ) {P b : �
   sound-adds few h z =
       z
       ∙ ap (λ (x : ℕ). addsNothing N E x (tree ls q)) p
-      ∙ and-front (lowest-empty (broken N E (2 ^ l) (tree ls q)) (All-turn (λ x i. omega arith) (broken-low N E (2 ^ l) ls q)) (sym (e ∙ ap (λ (x : ℕ). lowest (broken N E x (tree ls q))) p) ∙ h))
+      ∙ sym (and-first (lowest-empty (broken N E (2 ^ l) (tree ls q)) (All-turn (λ x i. omega arith) (broken-low N E (2 ^ l) ls q)) (sym (e ∙ ap (λ (x : ℕ). lowest (broken N E x (tree ls q))) p) ∙ h)))
 
 -- the test against the sandbox
 pub uses-tests : (N : Net) (E : Estimate) (d l : ℕ) (t : Tree) {P : ℕ} → P ≡ 2 ^ l → {m : List ℕ} {u : Bool} → m ≡ table 32 (uses N E P t) → u ≡ all (λ s. within (getD m s 0) (boxAt N d l s)) (below 32) → u ≡ usesFit N E d l t

@@ -13,7 +13,8 @@ use Rattle.sets.proofs.Lists.{iff, and-l, and-r, and-i, eqb-eq, all-at, all-i}
 use Rattle.sets.proofs.Bits.{has-and, has-joins, joins-has, same-bits, sites-in, in-sites}
 use Rattle.klaim.specs.Net.{Net, box, boxSelf, boxAt}
 use Rattle.klaim.specs.Report.{sure}
-use Rattle.flow.proofs.Sites.{mem-single, some-site, other-site}
+use Rattle.sets.proofs.Shared.{mem-single}
+use Rattle.flow.proofs.Sites.{some-site, other-site}
 
 -- a sandbox's byte
 pub box-here : (N : Net) (bs : List ℕ) (k t : ℕ) → N .boxes ≡ bs → getD bs (33 * k + t) 0 ≡ box N k t

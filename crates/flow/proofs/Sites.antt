@@ -2,38 +2,26 @@
 -- Assumes nothing.
 use mathlib.Core.Path.{_≡_, refl, sym, ap, _∙_}
 use mathlib.Core.Bool.{Bool, true, false, not, false≢true}
-use Prim.Native.Nat.{ℕ, zero, suc, _^_, _<_, _≤_}
+use Prim.Native.Nat.{ℕ, _^_, _<_}
 use native.Mathlib.Omega.{arith}
 use native.Mathlib.Decide.{decLt}
-use native.Mathlib.Nat.{div-one, div-eq-of-lt, mul-mod-left, mul-div-cancel, pow-suc, lt-of-lt-of-le}
-use lib.Dec.{eqb, eqb·zero-suc, eqb·suc-zero, eqb·suc-suc}
-use lib.Pow.{pow-mono}
+use lib.Dec.{eqb}
 use borrow.Author.Tests.{not-true, eq-eqb}
 use Rattle.sets.specs.Lists.{_&_, any, below}
 use Rattle.sets.specs.Bits.{has, mem}
 use Rattle.sets.proofs.Lists.{iff, and-l, and-r, not-no, not-yes, eqb-eq, all-at, any-at, any-none, none-all}
 use Rattle.sets.proofs.Tables.{below-in, in-below}
-use Rattle.sets.proofs.Bits.{has-half, has-none, same-bits}
-
--- the set of one site
-pub mem-single : (s n : ℕ) → mem s (2 ^ n) ≡ eqb n s
-unfolding has
-mem-single zero zero = refl
-mem-single zero (suc n) = rw (div-one, pow-suc, mul-mod-left) (sym (eqb·suc-zero n))
-mem-single (suc s) zero = sym (has-half s 1) ∙ has-none s ∙ sym (eqb·zero-suc s)
-mem-single (suc s) (suc n) = sym (has-half s (2 ^ suc n)) ∙ ap (λ (z : ℕ). has z (2 ^ s)) (rw pow-suc (mul-div-cancel (2 ^ n) (omega arith))) ∙ mem-single s n ∙ sym (eqb·suc-suc n s)
+use Rattle.sets.proofs.Bits.{has-none, same-bits}
+use Rattle.sets.proofs.Shared.{none-high}
+pub use Rattle.sets.proofs.Shared.{mem-single}
 
 -- a set of sites that is not 0 has a site
-none-high : (m n : ℕ) → m < 2 ^ 32 → 32 ≤ n → has m (2 ^ n) ≡ false
-unfolding has
-none-high m n h l = rw (div-eq-of-lt (lt-of-lt-of-le h (pow-mono l)))
-
 pub some-site : (m : ℕ) → m < 2 ^ 32 → (m ≡ 0 → ⊥) → (s : ℕ) × (s < 32) × (mem s m ≡ true)
 some-site m h z = go (any (λ s. mem s m) (below 32)) refl
   where
     none : any (λ s. mem s m) (below 32) ≡ false → (n : ℕ) → Dec (n < 32) → has m (2 ^ n) ≡ false
     none e n (yes l) = not-true _ (all-at (λ s. not (mem s m)) (below-in 32 n l) (none-all (λ s. mem s m) (λ s. not (mem s m)) (λ s f. ap not f) (below 32) e))
-    none e n (no l) = none-high m n h (omega arith)
+    none e n (no l) = none-high 32 m n h (omega arith)
 
     go : (b : Bool) → any (λ s. mem s m) (below 32) ≡ b → (s : ℕ) × (s < 32) × (mem s m ≡ true)
     go true e = let r = any-at (λ s. mem s m) (below 32) e in (r .0, in-below 32 (r .0) (r .1), r .2)
@@ -52,7 +40,7 @@ other-site m t h z o = go (any (λ s. mem s m & not (eqb t s)) (below 32)) refl
 
     pick : (n : ℕ) → mem n m ≡ true → Dec (n < 32) → n < 32
     pick n y (yes l) = l
-    pick n y (no l) = absurd (false≢true (sym (none-high m n h (omega arith)) ∙ y))
+    pick n y (no l) = absurd (false≢true (sym (none-high 32 m n h (omega arith)) ∙ y))
 
     go : (b : Bool) → any (λ s. mem s m & not (eqb t s)) (below 32) ≡ b → (s : ℕ) × (s < 32) × (mem s m ≡ true) × (t ≡ s → ⊥)
     go true e = let r = any-at (λ s. mem s m & not (eqb t s)) (below 32) e in (r .0, in-below 32 (r .0) (r .1), and-l _ _ (r .2), λ q. false≢true (sym (not-yes (eqb t (r .0)) (and-r _ _ (r .2))) ∙ eq-eqb t (r .0) q))

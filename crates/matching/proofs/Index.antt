@@ -6,18 +6,20 @@ use mathlib.Core.Bool.{Bool, true, false, not, cond, false≢true}
 use mathlib.Core.List.{List, [], _∷_}
 use Prim.Native.Nat.{ℕ, zero, suc, _+_, _*_, _-_, _/_, _%_, _^_, _<_, _≤_, min}
 use native.Mathlib.Omega.{arith}
-use native.Mathlib.Nat.{div-eq-of-lt, pow-suc, div-one, one-mul}
+use native.Mathlib.Nat.{pow-suc, div-one, one-mul}
 use native.Mathlib.Decide.{ℕ-discrete, decLt}
 use lib.Dec.{eqb, ltb}
 use lib.Bits.{bitOr, bitAnd, and-step, and-self, and-le-l, and-le-r}
-use lib.Pow.{pow-lt, pow-mono, pow-add, shl-shr, shr-shr, shl-exact}
+use lib.Pow.{shr-shr, shl-exact}
 use lib.Count.{trailingZeros, under, ones, onesIn, ones-step}
 use lib.ListN.{length, getD, drop, set, replicate, length-set, getD-replicate, drop-of-length-le}
 use lib.Seq.{drop-cons, getD-set-same, getD-set-other}
 use Rattle.sets.specs.Lists.{_&_, either, imp, all, any, only, keep, same, below, table, tableFrom}
 use Rattle.sets.specs.Bits.{has, mem, sites, join, meet}
-use Rattle.sets.proofs.Lists.{iff, same-eq, and-i, and-l, and-r, imp-e, any-at, any-i, length-union, or-case, or-l, or-r, eqb-eq, eq-eqb, ltb-lt, lt-ltb}
-use Rattle.sets.proofs.Bits.{has-and, has-or, has-none, has-self, has-half, same-bits}
+use Rattle.sets.proofs.Lists.{iff, same-eq, and-i, and-l, and-r, imp-e, any-at, any-i, length-union, or-case, or-l, or-r, eqb-eq, ltb-lt, lt-ltb}
+use borrow.Author.Tests.{eq-eqb, ne-eqb, le-ltb}
+use Rattle.sets.proofs.Shared.{and-first, and-stop, mem-single, none-high}
+use Rattle.sets.proofs.Bits.{digit, has-and, has-or, has-none, has-half, same-bits}
 use Rattle.sets.proofs.Tables.{below-in, in-below, table-in, table-all}
 use Rattle.klaim.specs.Analysis.{choices}
 use Rattle.klaim.specs.Invariant.{allBelow, distinct}
@@ -33,14 +35,6 @@ less-low a b x y z (inl p) (inl q) e f g = rw (div-one, div-one, div-one, e, f, 
 less-low a b x y z (inl p) (inr q) e f g = rw (div-one, div-one, div-one, e, f, g, p, q)
 less-low a b x y z (inr p) (inl q) e f g = rw (div-one, div-one, div-one, e, f, g, p, q)
 less-low a b x y z (inr p) (inr q) e f g = rw (div-one, div-one, div-one, e, f, g, p, q)
-
-digit : (x : ℕ) → (x % 2 ≡ 0) ⊎ (x % 2 ≡ 1)
-digit x = go (x % 2) (omega arith)
-  where
-    go : (d : ℕ) → d < 2 → (d ≡ 0) ⊎ (d ≡ 1)
-    go zero h = inl refl
-    go (suc zero) h = inr refl
-    go (suc (suc d)) h = absurd (omega arith)
 
 mem-less : (p a b : ℕ) → mem p (a - bitAnd a b) ≡ (mem p a & not (mem p b))
 mem-less zero a b = less-low a b (a % 2) (b % 2) (a - bitAnd a b) (digit a) (digit b) refl refl (omega (arith, and-step a b, and-le-l (a / 2) (b / 2)))
@@ -111,59 +105,28 @@ pub no-rows : (i : ℕ) → inRows (0 ∷ 0 ∷ 0 ∷ 0 ∷ []) i ≡ false
 unfolding inRows
 no-rows i = four-none (i % 64) (i / 64)
 
-pub untrue : {b : Bool} → (b ≡ true → ⊥) → b ≡ false
+untrue : {b : Bool} → (b ≡ true → ⊥) → b ≡ false
 untrue {b = true} h = absurd (h refl)
 untrue {b = false} h = refl
-
--- a bit alone
-mem-other : (p q : ℕ) → (p ≡ q → ⊥) → mem p (2 ^ q) ≡ false
-unfolding has
-mem-other p q h = go (decLt q p)
-  where
-    high : (d : ℕ) → q ≡ p + suc d → eqb (2 ^ q / 2 ^ p % 2) 1 ≡ false
-    high d e =
-        let two : 2 ^ suc d ≡ 2 ^ d * 2 = pow-suc 2 d in
-        let z : 2 ^ suc d % 2 ≡ 0 = omega arith in
-        rw (e ∙ add-turn, pow-add 2 (suc d) p, shl-shr (2 ^ suc d) p, z)
-      where
-        add-turn : p + suc d ≡ suc d + p
-        add-turn = omega arith
-
-    go : Dec (q < p) → eqb (2 ^ q / 2 ^ p % 2) 1 ≡ false
-    go (yes l) = rw (div-eq-of-lt (pow-lt l))
-    go (no l) = high (q - suc p) (omega arith)
-
-mem-one : (p q : ℕ) → mem p (2 ^ q) ≡ eqb p q
-mem-one p q = go (ℕ-discrete p q)
-  where
-    go : Dec (p ≡ q) → mem p (2 ^ q) ≡ eqb p q
-    go (yes e) = ap (λ (x : ℕ). mem p (2 ^ x)) (sym e) ∙ has-self p ∙ sym (ap (eqb p) (sym e) ∙ eq-eqb p)
-    go (no h) = mem-other p q h ∙ sym (untrue (λ t. h (eqb-eq t)))
-
-eqb-i : {p q : ℕ} → p ≡ q → eqb p q ≡ true
-eqb-i {p} {q} e = ap (eqb p) (sym e) ∙ eq-eqb p
 
 -- no column is entered yet
 pub entered-none : (bs : List ℕ) (i : ℕ) (s : List ℕ) → Entered bs i 0 s s
 unfolding either _&_
-entered-none bs i s = record { long = refl; tells = λ c v k _ _ _. sym (ap (λ (b : Bool). either (b & (eqb k i & eqb (inColumn bs c i) v)) (inIndex s c v k)) (untrue (λ t. none c (ltb-lt c 0 t)))) }
-  where
-    none : (c : ℕ) → c < 0 → ⊥
-    none c h = omega arith
+entered-none bs i s = record { long = refl; tells = λ c v k _ _ _. sym (ap (λ (b : Bool). either (b & (eqb k i & eqb (inColumn bs c i) v)) (inIndex s c v k)) (le-ltb c 0 (omega arith))) }
 
 -- one column more
 module _ (bs : List ℕ) (i j at bit : ℕ) (s t : List ℕ) (low : i < 256) (cell : at ≡ 128 * j + 4 * inColumn bs j i + i / 64) (key : inColumn bs j i < 32) (col : j < 6) (one : bit ≡ 2 ^ (i % 64)) (long : length s ≡ 768) (E : Entered bs i j s t) where
-  bit-here : (c v k : ℕ) → 128 * c + 4 * v + k / 64 ≡ at → mem (k % 64) (getD (set t at (bitOr (getD t at 0) bit)) (128 * c + 4 * v + k / 64) 0) ≡ either (inIndex t c v k) (eqb (k % 64) (i % 64))
+  bit-here : (c v k : ℕ) → 128 * c + 4 * v + k / 64 ≡ at → mem (k % 64) (getD (set t at (bitOr (getD t at 0) bit)) (128 * c + 4 * v + k / 64) 0) ≡ either (inIndex t c v k) (eqb (i % 64) (k % 64))
   unfolding join inIndex
   bit-here c v k e =
       ap (λ (x : ℕ). mem (k % 64) (getD (set t at (bitOr (getD t at 0) bit)) x 0)) e
       ∙ ap (λ (x : ℕ). mem (k % 64) x) (getD-set-same t at (bitOr (getD t at 0) bit) 0 (omega (arith, E .long)))
       ∙ has-or (getD t at 0) bit (k % 64)
       ∙ ap (λ (x : ℕ). either (mem (k % 64) (getD t at 0)) (mem (k % 64) x)) one
-      ∙ ap (either (mem (k % 64) (getD t at 0))) (mem-one (k % 64) (i % 64))
-      ∙ ap (λ (x : ℕ). either (mem (k % 64) (getD t x 0)) (eqb (k % 64) (i % 64))) (sym e)
+      ∙ ap (either (mem (k % 64) (getD t at 0))) (mem-single (k % 64) (i % 64))
+      ∙ ap (λ (x : ℕ). either (mem (k % 64) (getD t x 0)) (eqb (i % 64) (k % 64))) (sym e)
 
-  more-here : (c v k : ℕ) → c < 6 → v < 32 → k < 256 → 128 * c + 4 * v + k / 64 ≡ at → either (inIndex t c v k) (eqb (k % 64) (i % 64)) ≡ either (ltb c (j + 1) & (eqb k i & eqb (inColumn bs c i) v)) (inIndex s c v k)
+  more-here : (c v k : ℕ) → c < 6 → v < 32 → k < 256 → 128 * c + 4 * v + k / 64 ≡ at → either (inIndex t c v k) (eqb (i % 64) (k % 64)) ≡ either (ltb c (j + 1) & (eqb k i & eqb (inColumn bs c i) v)) (inIndex s c v k)
   more-here c v k hc hv hk e = iff (λ z. to (or-case _ _ z)) (λ z. from (or-case _ _ z))
     where
       same-col : c ≡ j
@@ -179,15 +142,15 @@ module _ (bs : List ℕ) (i j at bit : ℕ) (s t : List ℕ) (low : i < 256) (ce
           go (inl q) = absurd (omega (arith, same-col, ltb-lt c j (and-l _ _ q)))
           go (inr q) = q
 
-      to : (inIndex t c v k ≡ true) ⊎ (eqb (k % 64) (i % 64) ≡ true) → either (ltb c (j + 1) & (eqb k i & eqb (inColumn bs c i) v)) (inIndex s c v k) ≡ true
+      to : (inIndex t c v k ≡ true) ⊎ (eqb (i % 64) (k % 64) ≡ true) → either (ltb c (j + 1) & (eqb k i & eqb (inColumn bs c i) v)) (inIndex s c v k) ≡ true
       to (inl q) = or-r _ _ (old q)
       to (inr q) =
-          let m : k % 64 ≡ i % 64 = eqb-eq q in
+          let m : i % 64 ≡ k % 64 = eqb-eq q in
           let e : k ≡ i = omega arith in
-          or-l _ _ (and-i (lt-ltb c (j + 1) (omega (arith, same-col))) (and-i (eqb-i e) (eqb-i same-key)))
+          or-l _ _ (and-i (lt-ltb c (j + 1) (omega (arith, same-col))) (and-i (eq-eqb _ _ e) (eq-eqb _ _ same-key)))
 
-      from : (ltb c (j + 1) & (eqb k i & eqb (inColumn bs c i) v) ≡ true) ⊎ (inIndex s c v k ≡ true) → either (inIndex t c v k) (eqb (k % 64) (i % 64)) ≡ true
-      from (inl q) = let e : k ≡ i = eqb-eq (and-l _ _ (and-r _ _ q)) in or-r _ _ (eqb-i (ap (λ (x : ℕ). x % 64) e))
+      from : (ltb c (j + 1) & (eqb k i & eqb (inColumn bs c i) v) ≡ true) ⊎ (inIndex s c v k ≡ true) → either (inIndex t c v k) (eqb (i % 64) (k % 64)) ≡ true
+      from (inl q) = let e : k ≡ i = eqb-eq (and-l _ _ (and-r _ _ q)) in or-r _ _ (eq-eqb _ _ (ap (λ (x : ℕ). x % 64) (sym e)))
       from (inr q) = or-l _ _ (E .tells c v k hc hv hk ∙ or-r _ _ q)
 
   more-there : (c v k : ℕ) → c < 6 → v < 32 → k < 256 → (128 * c + 4 * v + k / 64 ≡ at → ⊥) → inIndex t c v k ≡ either (ltb c (j + 1) & (eqb k i & eqb (inColumn bs c i) v)) (inIndex s c v k)
@@ -221,10 +184,7 @@ pub indexed-none : (bs : List ℕ) → Indexed 0 bs (replicate 768 0)
 unfolding inIndex _&_
 indexed-none bs c v i hc hv hi =
     ap (λ (x : ℕ). mem (i % 64) x) (getD-replicate 768 (128 * c + 4 * v + i / 64) 0 0 (omega arith)) ∙ has-none (i % 64)
-    ∙ sym (ap (λ (b : Bool). b & eqb (inColumn bs c i) v) (untrue (λ t. none (ltb-lt i 0 t))))
-  where
-    none : i < 0 → ⊥
-    none h = omega arith
+    ∙ sym (ap (λ (b : Bool). b & eqb (inColumn bs c i) v) (le-ltb i 0 (omega arith)))
 
 pub indexed-more : (bs s t : List ℕ) (i m : ℕ) → i + 1 ≡ m → Indexed i bs s → Entered bs i 6 s t → Indexed m bs t
 indexed-more bs s t i m e I E c v k hc hv hk = E .tells c v k hc hv hk ∙ ap (either (ltb c 6 & (eqb k i & eqb (inColumn bs c i) v))) (I c v k hc hv hk) ∙ iff (λ z. to (or-case _ _ z)) (λ z. from z (ℕ-discrete k i))
@@ -234,7 +194,7 @@ indexed-more bs s t i m e I E c v k hc hv hk = E .tells c v k hc hv hk ∙ ap (e
     to (inr q) = let l = ltb-lt k i (and-l _ _ q) in and-i (lt-ltb k m (omega arith)) (and-r _ _ q)
 
     from : ltb k m & eqb (inColumn bs c k) v ≡ true → Dec (k ≡ i) → either (ltb c 6 & (eqb k i & eqb (inColumn bs c i) v)) (ltb k i & eqb (inColumn bs c k) v) ≡ true
-    from q (yes w) = or-l _ _ (and-i (lt-ltb c 6 hc) (and-i (eqb-i w) (ap (λ (x : ℕ). eqb (inColumn bs c x) v) (sym w) ∙ and-r _ _ q)))
+    from q (yes w) = or-l _ _ (and-i (lt-ltb c 6 hc) (and-i (eq-eqb _ _ w) (ap (λ (x : ℕ). eqb (inColumn bs c x) v) (sym w) ∙ and-r _ _ q)))
     from q (no w) = let l = ltb-lt k m (and-l _ _ q) in or-r _ _ (and-i (lt-ltb k i (omega arith)) (and-r _ _ q))
 
 -- what a row has in a column
@@ -244,7 +204,7 @@ key-first bs c i e = rw e
 
 pub key-later : (bs : List ℕ) (c i : ℕ) → (c ≡ 0 → ⊥) → getD bs (6 * i + c) 0 % 32 ≡ inColumn bs c i
 unfolding inColumn
-key-later bs c i h = rw (untrue {b = eqb c 0} (λ t. h (eqb-eq t)))
+key-later bs c i h = rw (ne-eqb c 0 h)
 
 pub bit-one : (p : ℕ) → p < 64 → 1 * 2 ^ p % 18446744073709551616 ≡ 2 ^ p
 bit-one p h = shl-exact {a = 1} 1 p 64 (omega arith) (omega arith) ∙ one-mul (2 ^ p)
@@ -275,7 +235,7 @@ mem-even y u = let e : y * 2 / 2 ≡ y = omega arith in sym (has-half u (y * 2))
 
 eqb-next : (x y : ℕ) → eqb x y ≡ eqb (suc x) (suc y)
 eqb-next x y =
-    iff (λ t. let e : suc x ≡ suc y = ap suc (eqb-eq t) in eqb-i e) (λ t. let f : suc x ≡ suc y = eqb-eq t in let e : x ≡ y = omega arith in eqb-i e)
+    iff (λ t. let e : suc x ≡ suc y = ap suc (eqb-eq t) in eq-eqb _ _ e) (λ t. let f : suc x ≡ suc y = eqb-eq t in let e : x ≡ y = omega arith in eq-eqb _ _ e)
 
 and-none : (b : Bool) → (b & false) ≡ false
 unfolding _&_
@@ -311,7 +271,7 @@ without (suc k) n p h = go (n % 2) refl (without k (n / 2))
     go (suc zero) e ih (suc u) =
         let f : (n - 1) / 2 ≡ n / 2 = omega arith in
         let g : bitAnd n (n - 1) ≡ bitAnd (n / 2) ((n - 1) / 2) * 2 = omega (arith, and-step n (n - 1)) in
-        let z : eqb (suc u) 0 ≡ false = untrue (λ t. let q : suc u ≡ 0 = eqb-eq t in omega arith) in
+        let z : eqb (suc u) 0 ≡ false = ne-eqb (suc u) 0 (λ q. omega arith) in
         ap (λ (x : ℕ). mem (suc u) x) g
         ∙ mem-even (bitAnd (n / 2) ((n - 1) / 2)) u
         ∙ ap (λ (x : ℕ). mem u (bitAnd (n / 2) x)) f
@@ -514,16 +474,12 @@ module _ (r : List ℕ) (w : ℕ) (here : w < 4) where
       let t = trailing 64 (getD r w 0) some h in
       any-i (inRows r) (below-in 256 (64 * w + trailingZeros 64 (getD r w 0)) (omega (arith, t .0))) (in-word (trailingZeros 64 (getD r w 0)) (t .0) ∙ t .1)
 
-bit-high : (x p : ℕ) → x < 2 ^ 64 → 64 ≤ p → mem p x ≡ false
-unfolding has
-bit-high x p h l = let e : 2 ^ 64 ≤ 2 ^ p = pow-mono l in let k : x < 2 ^ p = omega arith in rw (div-eq-of-lt k)
-
 pub word-same : (x y : List ℕ) (w : ℕ) → w < 4 → getD x w 0 < 2 ^ 64 → getD y w 0 < 2 ^ 64 → ((i : ℕ) → i < 256 → inRows x i ≡ inRows y i) → getD x w 0 ≡ getD y w 0
 word-same x y w here a b h = same-bits (getD x w 0) (getD y w 0) (λ p. go p (decLt p 64))
   where
     go : (p : ℕ) → Dec (p < 64) → mem p (getD x w 0) ≡ mem p (getD y w 0)
     go p (yes l) = sym (in-word x w here p l) ∙ h (64 * w + p) (omega arith) ∙ in-word y w here p l
-    go p (no l) = bit-high (getD x w 0) p a (omega arith) ∙ sym (bit-high (getD y w 0) p b (omega arith))
+    go p (no l) = none-high 64 (getD x w 0) p a (omega arith) ∙ sym (none-high 64 (getD y w 0) p b (omega arith))
 
 -- four numbers
 module _ (a b c d : ℕ) where
@@ -545,14 +501,6 @@ module _ (a b c d : ℕ) where
   pub four-nothing : a ≡ 0 → b ≡ 0 → c ≡ 0 → d ≡ 0 → false ≡ any (inRows (a ∷ b ∷ c ∷ d ∷ [])) (below 256)
   four-nothing p q r s =
       rw (p, q, r, s) (sym (untrue (λ t. let e = any-at (inRows (0 ∷ 0 ∷ 0 ∷ 0 ∷ [])) (below 256) t in false≢true (sym (no-rows (e .0)) ∙ e .2))))
-
-and-front : {a b : Bool} → a ≡ true → (a & b) ≡ b
-unfolding _&_
-and-front e = rw e
-
-and-stop : {a : Bool} (b : Bool) → a ≡ false → (a & b) ≡ false
-unfolding _&_
-and-stop b e = rw e
 
 -- some element of a table passes
 from-any : {A : Type 0} (g : A → Bool) (n i : ℕ) (h : ℕ → A) → any g (tableFrom n i h) ≡ true → (k : ℕ) × (k < i + n) × (g (h k) ≡ true)
@@ -595,10 +543,10 @@ module _ {A : Type 0} (r : List ℕ) (n : ℕ) (g : A → Bool) (h : ℕ → A) 
       go (yes m) =
           let e : min k n ≡ k = omega arith in
           let f : suc k ≡ min (suc k) n = omega arith in
-          ap₂ (λ (x : ℕ) (b : Bool). length (keep g (table x h)) + cond b 1 0) e (and-front (lt-ltb k n m)) ∙ keep-more g k h (min (suc k) n) f
+          ap₂ (λ (x : ℕ) (b : Bool). length (keep g (table x h)) + cond b 1 0) e (and-first (lt-ltb k n m)) ∙ keep-more g k h (min (suc k) n) f
       go (no m) =
           let e : min k n ≡ min (suc k) n = omega arith in
-          ap₂ (λ (x : ℕ) (b : Bool). length (keep g (table x h)) + cond b 1 0) e (and-stop (g (h k)) (untrue (λ t. m (ltb-lt k n t)))) ∙ omega arith
+          ap₂ (λ (x : ℕ) (b : Bool). length (keep g (table x h)) + cond b 1 0) e (and-stop (g (h k)) (le-ltb k n (omega arith))) ∙ omega arith
 
   pub rows-count : length (keep (inRows r) (below 256)) ≡ length (keep g (table n h))
   unfolding below
@@ -634,20 +582,20 @@ word-differs x y w here a b h = (λ t. absurd (false≢true t), λ e. absurd (h 
 
 -- or they are the same
 pub words-same : (a b c d e f g h : ℕ) → a ≡ e → b ≡ f → c ≡ g → d < 2 ^ 64 → h < 2 ^ 64 → (eqb d h ≡ true → (i : ℕ) → i < 256 → inRows (a ∷ b ∷ c ∷ d ∷ []) i ≡ inRows (e ∷ f ∷ g ∷ h ∷ []) i) × (((i : ℕ) → i < 256 → inRows (a ∷ b ∷ c ∷ d ∷ []) i ≡ inRows (e ∷ f ∷ g ∷ h ∷ []) i) → eqb d h ≡ true)
-words-same a b c d e f g h p q r k l = (λ t i z. let s : d ≡ h = eqb-eq t in rw (p, q, r, s), λ z. eqb-i (word-same (a ∷ b ∷ c ∷ d ∷ []) (e ∷ f ∷ g ∷ h ∷ []) 3 (omega arith) k l z))
+words-same a b c d e f g h p q r k l = (λ t i z. let s : d ≡ h = eqb-eq t in rw (p, q, r, s), λ z. eq-eqb _ _ (word-same (a ∷ b ∷ c ∷ d ∷ []) (e ∷ f ∷ g ∷ h ∷ []) 3 (omega arith) k l z))
 
 -- the last number decides
 pub last-word : (a b c d : ℕ) → a ≡ 0 → b ≡ 0 → c ≡ 0 → d < 2 ^ 64 → not (eqb d 0) ≡ any (inRows (a ∷ b ∷ c ∷ d ∷ [])) (below 256)
 last-word a b c d p q r h = go (ℕ-discrete d 0)
   where
     go : Dec (d ≡ 0) → not (eqb d 0) ≡ any (inRows (a ∷ b ∷ c ∷ d ∷ [])) (below 256)
-    go (yes e) = ap not (eqb-i e) ∙ four-nothing a b c d p q r e
-    go (no e) = ap not (untrue (λ t. e (eqb-eq t))) ∙ sym (some-word (a ∷ b ∷ c ∷ d ∷ []) 3 (omega arith) e h)
+    go (yes e) = ap not (eq-eqb _ _ e) ∙ four-nothing a b c d p q r e
+    go (no e) = ap not (ne-eqb d 0 e) ∙ sym (some-word (a ∷ b ∷ c ∷ d ∷ []) 3 (omega arith) e h)
 
 -- the rows with as many sites as there are sets
 pub chosen-is : (xss : List (List ℕ)) (row : List ℕ) (m : ℕ) → length xss ≡ m → (b : Bool) → ((b & eqb (length row) m) & fits xss row) ≡ (b & fits xss row)
 unfolding _&_
-chosen-is xss row m e true = iff (λ t. and-r (eqb (length row) m) (fits xss row) t) (λ t. and-i (eqb-i (fits-long xss row t ∙ e)) t)
+chosen-is xss row m e true = iff (λ t. and-r (eqb (length row) m) (fits xss row) t) (λ t. and-i (eq-eqb _ _ (fits-long xss row t ∙ e)) t)
 chosen-is xss row m e false = refl
 
 -- two rows, from place j on
@@ -661,7 +609,7 @@ same-end xs ys j h l = rw (drop-of-length-le xs h, drop-of-length-le ys l)
 
 eqb-swap : (x y : ℕ) → eqb x y ≡ eqb y x
 eqb-swap x y =
-    iff (λ t. let e : y ≡ x = sym (eqb-eq t) in eqb-i e) (λ t. let e : x ≡ y = sym (eqb-eq t) in eqb-i e)
+    iff (λ t. let e : y ≡ x = sym (eqb-eq t) in eq-eqb _ _ e) (λ t. let e : x ≡ y = sym (eqb-eq t) in eq-eqb _ _ e)
 
 module _ (ts bs : List ℕ) (n m i k : ℕ) (here : i < 256) (long : length ts ≡ 1536) (low : allBelow 32 (rowAt ts i) ≡ true) (is : m ≡ length (rowAt ts i)) (there : k < 256) (L : Low n bs) where
   pub alike-end : (a : Bool) → (a ≡ true → (k < n) × (length (rowAt bs k) ≡ m)) → a ≡ (a & same (drop m (rowAt ts i)) (drop m (rowAt bs k)))
@@ -673,7 +621,7 @@ module _ (ts bs : List ℕ) (n m i k : ℕ) (here : i < 256) (long : length ts �
   unfolding rowsView
   alike-at j h l e =
       and-swap _ _
-      ∙ ap (λ (b : Bool). b & same (drop (suc j) (rowAt ts i)) (drop (suc j) (rowAt bs k))) (and-front (lt-ltb k n l) ∙ ap₂ eqb (row-key bs k j there (L .long) (table-all (allBelow 32) n (rowAt bs) (L .sites) k l) (omega (arith, e))) (row-key ts i j here long low (omega arith)) ∙ eqb-swap (getD (rowAt bs k) j 0) (getD (rowAt ts i) j 0))
+      ∙ ap (λ (b : Bool). b & same (drop (suc j) (rowAt ts i)) (drop (suc j) (rowAt bs k))) (and-first (lt-ltb k n l) ∙ ap₂ eqb (row-key bs k j there (L .long) (table-all (allBelow 32) n (rowAt bs) (L .sites) k l) (omega (arith, e))) (row-key ts i j here long low (omega arith)) ∙ eqb-swap (getD (rowAt bs k) j 0) (getD (rowAt ts i) j 0))
       ∙ sym (same-from (rowAt ts i) (rowAt bs k) j (omega arith) (omega (arith, e)))
 
   pub alike-down : (j : ℕ) → 0 < j → j ≤ m → (a : Bool) → (a ≡ true → (k < n) × (length (rowAt bs k) ≡ m)) → ((a & same (drop j (rowAt ts i)) (drop j (rowAt bs k))) & (ltb k n & eqb (inColumn bs j k) (inColumn ts j i))) ≡ (a & same (drop (j - 1) (rowAt ts i)) (drop (j - 1) (rowAt bs k)))
@@ -689,7 +637,7 @@ same-long xs ys t = ap length (sym (same-eq xs ys t))
 
 pub alike-is : (t row : List ℕ) (m : ℕ) → m ≡ length t → (b : Bool) → ((b & eqb (length row) m) & same t row) ≡ (b & same t row)
 unfolding _&_
-alike-is t row m e true = iff (λ z. and-r (eqb (length row) m) (same t row) z) (λ z. and-i (eqb-i (same-long t row z ∙ sym e)) z)
+alike-is t row m e true = iff (λ z. and-r (eqb (length row) m) (same t row) z) (λ z. and-i (eq-eqb _ _ (same-long t row z ∙ sym e)) z)
 alike-is t row m e false = refl
 
 -- how many sites a set has
@@ -710,7 +658,7 @@ keep-short f (x ∷ xs) = omega (arith, length-union (only (f x) x) (keep f xs),
 pub many-rule : (ms : List ℕ) (m : ℕ) (rows : List (List ℕ)) (need : ℕ) → distinct rows ≡ true → length rows ≤ 256 → need ≡ min (product (Sets ms m)) 257 → 257 ≤ need → false ≡ choices (Sets ms m) (λ t. any (same t) rows)
 many-rule ms m rows need d few e h =
     let l : length (keep (fits (Sets ms m)) rows) ≤ 256 = omega (arith, keep-short (fits (Sets ms m)) rows) in
-    sym (untrue (λ t. less (eqb-eq t) l)) ∙ count-rule ms m rows (length (keep (fits (Sets ms m)) rows)) need d refl l e
+    sym (ne-eqb _ need (λ q. less q l)) ∙ count-rule ms m rows (length (keep (fits (Sets ms m)) rows)) need d refl l e
   where
     less : {x : ℕ} → x ≡ need → x ≤ 256 → ⊥
     less q l = omega arith

@@ -10,11 +10,11 @@ use native.Mathlib.Decide.{decLe}
 use lib.Dec.{eqb}
 use lib.ListN.{length, getD, take, drop, length-take, length-drop, length-map, length-append, drop-of-length-le}
 use lib.Seq.{drop-cons, getD-take, getD-drop}
-use Rattle.sets.specs.Lists.{All, done, more, _&_, all, any, only, keep, among, tableFrom, table, same}
+use Rattle.sets.specs.Lists.{All, done, more, _&_, any, only, keep, among, tableFrom, table, same}
 use Rattle.sets.specs.Bits.{mem, sites}
 use Rattle.sets.proofs.Lists.{iff, and-r, among-in, any-i, eq-eqb, eqb-eq, keep-snoc}
 use Rattle.sets.proofs.Counting.{Unlike}
-use Rattle.sets.proofs.Tables.{length-table, getD-table, table-snoc, table-drop}
+use Rattle.sets.proofs.Tables.{table-snoc}
 use Rattle.sets.proofs.Bits.{sites-in, in-sites}
 use Rattle.klaim.specs.Invariant.{distinct}
 use Rattle.klaim.specs.Analysis.{choices}
@@ -143,28 +143,3 @@ count-rule ms m rows have need d h few e =
 
     to : have ≡ need → eqb have need ≡ true
     to q = subst (λ (x : ℕ). eqb have x ≡ true) q (eq-eqb have)
-
--- a test of a table, from place i on
-module _ {A : Type 0} (f : A → Bool) (n : ℕ) (g : ℕ → A) where
-  all-from : (i : ℕ) → i < n → all f (drop i (table n g)) ≡ (f (g i) & all f (drop (suc i) (table n g)))
-  unfolding all
-  all-from i h =
-      ap (all f) (drop-cons (table n g) i (g i) (omega (arith, length-table n g)))
-      ∙ ap (λ (x : A). f x & all f (drop (suc i) (table n g))) (getD-table n g i (g i) h)
-
-  pub all-yes : (i k : ℕ) → i < n → suc i ≡ k → f (g i) ≡ true → all f (drop i (table n g)) ≡ all f (drop k (table n g))
-  unfolding _&_
-  all-yes i k h e t = all-from i h ∙ ap (λ (b : Bool). b & all f (drop (suc i) (table n g))) t ∙ ap (λ (k : ℕ). all f (drop k (table n g))) e
-
-  pub all-no : (i : ℕ) → i < n → f (g i) ≡ false → all f (drop i (table n g)) ≡ false
-  unfolding _&_
-  all-no i h t = all-from i h ∙ ap (λ (b : Bool). b & all f (drop (suc i) (table n g))) t
-
-  pub all-end : (i : ℕ) → n ≤ i → all f (drop i (table n g)) ≡ true
-  unfolding all
-  all-end i h = ap (all f) (drop-of-length-le (table n g) {i = i} (omega (arith, length-table n g)))
-
-  -- downwards
-  pub all-down : (i : ℕ) → 0 < i → i ≤ n → (f (g (i - 1)) & all f (drop i (table n g))) ≡ all f (drop (i - 1) (table n g))
-  unfolding all
-  all-down i p h = sym (ap (all f) (table-drop n g i p h))

@@ -16,7 +16,7 @@ use Rattle.klaim.specs.Net.{Root, Net, Estimate, home}
 use Rattle.klaim.specs.Analysis.{placeSet, process}
 use Rattle.klaim.specs.Report.{uses, adds, rootAdds, holdAdds, reportAt, report}
 use Rattle.tables.specs.View.{linesView, rootAt, rootsView}
-use Rattle.flow.proofs.Sites.{mem-single}
+use Rattle.sets.proofs.Shared.{mem-single}
 use Rattle.flow.proofs.Laws.{at-table}
 use Rattle.report.specs.Given.{aRoot, Given}
 use Rattle.sets.proofs.Joins.{join-assoc, join-comm, join-none, joins-last}

@@ -23,7 +23,7 @@ use Rattle.klaim.specs.declared.Loc.the-variants.{At, Here, Use}
 use Rattle.klaim.specs.Net.{Net, home}
 use Rattle.klaim.specs.State as Spec
 use Rattle.klaim.specs.Engine.{value, under, permits}
-use Rattle.flow.proofs.Sites.{mem-single}
+use Rattle.sets.proofs.Shared.{mem-single}
 use Rattle.threads.specs.declared.Thread.{Thread}
 use Rattle.threads.specs.View.{noSite, noThread, binding, bindingsView, threadView, threadsView}
 use Rattle.threads.proofs.Splice.{get-some, get-none, map-some, splice-set, map-splice, moved-all}

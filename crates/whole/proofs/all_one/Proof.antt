@@ -5,7 +5,7 @@ use lib.Dec.{eqb}
 use lib.ListN.{drop, getD}
 use borrow.Author.Tests.{eq-eqb, ne-eqb}
 use Rattle.sets.specs.Lists.{all, table, below}
-use Rattle.matching.proofs.Laws.{all-yes, all-no, all-end}
+use Rattle.sets.proofs.Shared.{all-yes, all-no, all-end}
 use borrow.Author.Needs.{needs}
 use Rattle.whole.proofs.all_one.Statement.{statement}
 use Rattle.whole.proofs.all_one.Tie as tie

@@ -5,7 +5,7 @@ use lib.Dec.{ltb}
 use lib.ListN.{drop}
 use Rattle.sets.specs.Lists.{_&_, all, table}
 use Rattle.whole.proofs.Order.{fits, order-all}
-use Rattle.matching.proofs.Laws.{all-yes, all-no, all-end}
+use Rattle.sets.proofs.Shared.{all-yes, all-no, all-end}
 use borrow.Author.Needs.{needs}
 use Rattle.whole.proofs.in_order.Statement.{statement}
 use Rattle.whole.proofs.in_order.Tie as tie

@@ -5,7 +5,7 @@ use lib.ListN.{drop}
 use Rattle.sets.specs.Lists.{all, table}
 use Rattle.tables.specs.View.{rootAt}
 use Rattle.whole.proofs.Order.{closedRoot, closed-all, root-form}
-use Rattle.matching.proofs.Laws.{all-yes, all-no, all-end}
+use Rattle.sets.proofs.Shared.{all-yes, all-no, all-end}
 use borrow.Author.Needs.{needs}
 use Rattle.whole.proofs.roots_closed.Statement.{statement}
 use Rattle.whole.proofs.roots_closed.Tie as tie

@@ -8,7 +8,7 @@ use borrow.Author.Tests.{lt-ltb, le-ltb}
 use Rattle.klaim.specs.Net.{Root}
 use Rattle.tables.specs.View.{rootAt}
 use Rattle.whole.proofs.Order.{present-all}
-use Rattle.matching.proofs.Laws.{all-yes, all-no, all-end}
+use Rattle.sets.proofs.Shared.{all-yes, all-no, all-end}
 use borrow.Author.Needs.{needs}
 use Rattle.whole.proofs.roots_present.Statement.{statement}
 use Rattle.whole.proofs.roots_present.Tie as tie
