@@ -1,20 +1,18 @@
 -- The numbers of broken lines are numbers of lines.
 -- Assumes nothing.
-use mathlib.Core.Path.{_≡_, refl, sym, ap, subst, _∙_}
-use mathlib.Core.Bool.{Bool, true, false, not, cond}
+use mathlib.Core.Path.{_≡_, refl, sym, ap, _∙_}
 use mathlib.Core.List.{List, [], _∷_}
 use mathlib.Core.Option.{Option, none, some}
 use Prim.Native.Nat.{ℕ, zero, suc, _+_, _-_, _<_, _≤_, min}
 use native.Mathlib.Omega.{arith}
 use native.Mathlib.Decide.{ℕ-discrete}
 use borrow.Author.Tests.{ne-eqb}
-use lib.Dec.{eqb}
 use lib.ListN.{length, getD}
-use Rattle.sets.specs.Lists.{All, done, more, only, _∪_}
-use Rattle.sets.proofs.Lists.{All-union, All-turn, All-only}
+use Rattle.sets.specs.Lists.{All, done, more}
+use Rattle.sets.proofs.Lists.{All-union, All-only}
 use Rattle.klaim.specs.Process.{Line, Nil, Par, Rep, Out, In, Read, Eval, Accept, Tree, nilT, parT, repT, outT, getT, evalT, acceptT, node, trees, tree}
 use Rattle.klaim.specs.Net.{Net, Estimate}
-use Rattle.klaim.specs.Analysis.{reach, outRule, getRule, evalRule, broken, lesser, least}
+use Rattle.klaim.specs.Analysis.{reach, broken, lesser, least}
 use Rattle.broken.specs.Lowest.{lowest, found}
 use Rattle.broken.proofs.Laws.{lowest-high}
 
@@ -67,26 +65,26 @@ broken-in N E n P (acceptT k a) l = broken-in N E n P a l
 pub broken-low : (N : Net) (E : Estimate) (P : ℕ) (ls : List Line) (q : ℕ) → All (λ x. x < length ls) (broken N E P (tree ls q))
 broken-low N E P ls q = broken-in N E (length ls) P (tree ls q) (tree-low ls q)
 
-found-some : (x : ℕ) → x < 256 → found x ≡ some x
+found-some : (x : ℕ) → x < 256 → found 256 x ≡ some x
 unfolding found
 found-some x h = rw (ne-eqb x 256 (λ e. omega arith))
 
-found-none : found 256 ≡ none
+found-none : found 256 256 ≡ none
 unfolding found
 found-none = refl
 
-lesser-found : (x y : ℕ) → x < 256 → y ≤ 256 → some (lesser x (found y)) ≡ found (min x y)
+lesser-found : (x y : ℕ) → x < 256 → y ≤ 256 → some (lesser x (found 256 y)) ≡ found 256 (min x y)
 unfolding lesser
 lesser-found x y h l = go (ℕ-discrete y 256)
   where
-    go : Dec (y ≡ 256) → some (lesser x (found y)) ≡ found (min x y)
+    go : Dec (y ≡ 256) → some (lesser x (found 256 y)) ≡ found 256 (min x y)
     go (yes e) =
         let m : min x y ≡ x = omega arith in
-        ap (λ (z : ℕ). some (lesser x (found z))) e ∙ ap (λ (o : Option ℕ). some (lesser x o)) found-none ∙ sym (ap found m ∙ found-some x h)
+        ap (λ (z : ℕ). some (lesser x (found 256 z))) e ∙ ap (λ (o : Option ℕ). some (lesser x o)) found-none ∙ sym (ap (found 256) m ∙ found-some x h)
     go (no e) = ap (λ (o : Option ℕ). some (lesser x o)) (found-some y (omega arith)) ∙ sym (found-some (min x y) (omega arith))
 
 -- the least of a list of line numbers, as the code finds it
-pub least-found : (xs : List ℕ) → All (λ x. x < 256) xs → least xs ≡ found (lowest xs)
+pub least-found : (xs : List ℕ) → All (λ x. x < 256) xs → least xs ≡ found 256 (lowest xs)
 unfolding least lowest
 least-found [] done = sym found-none
 least-found (x ∷ xs) (more h l) = ap (λ (o : Option ℕ). some (lesser x o)) (least-found xs l) ∙ lesser-found x (lowest xs) h (lowest-high xs)

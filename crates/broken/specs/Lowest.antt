@@ -11,6 +11,6 @@ unfoldable pub lowest : List ℕ → ℕ
 lowest [] = 256
 lowest (x ∷ xs) = min x (lowest xs)
 
--- the line that such a number stands for, if any
-unfoldable pub found : ℕ → Option ℕ
-found q = cond (eqb q 256) none (some q)
+-- what a number stands for: n for none, another for itself
+unfoldable pub found : ℕ → ℕ → Option ℕ
+found n q = cond (eqb q n) none (some q)

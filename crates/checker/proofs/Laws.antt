@@ -1,29 +1,27 @@
 -- What a net and an estimate that were read meet, and the bytes of a report in a buffer.
 -- Assumes nothing.
-use mathlib.Core.Path.{_≡_, refl, sym, ap, subst, _∙_}
+use mathlib.Core.Path.{_≡_, refl, sym, ap, _∙_}
 use mathlib.Core.Logic.{_⊎_, inl, inr}
 use mathlib.Core.Bool.{Bool, true, false, cond}
 use mathlib.Core.List.{List, _++_}
 use Prim.Native.Nat.{ℕ, _+_, _-_, _<_, _≤_}
-use native.Mathlib.Decide.{ℕ-discrete}
 use native.Mathlib.Omega.{arith}
-use lib.Dec.{eqb, leb}
-use lib.ListN.{length, getD, set, drop, length-drop, length-append, length-set, List·getD-append}
-use lib.Seq.{ext-getD, getD-set-same, getD-set-other, getD-drop, getD-append-add}
+use lib.Dec.{leb}
+use lib.ListN.{length, getD, drop, length-drop, length-append, List·getD-append}
+use lib.Seq.{ext-getD, getD-drop, getD-append-add}
 use borrow.Author.Tests.{eq-eqb, ne-eqb, le-ltb}
 use Rattle.sets.specs.Lists.{all}
 use Rattle.sets.proofs.Lists.{all-i, all-at, ltb-lt, lt-ltb, leb-le, nleb-lt}
-use Rattle.sets.proofs.Tables.{length-table}
+use Rattle.sets.proofs.Tables.{length-table, Filled}
 use Rattle.klaim.specs.Invariant.{allBelow}
 use Rattle.klaim.specs.Analysis.{Verdict, verdict}
 use Rattle.klaim.specs.Check.{written, checkRead, check}
 use Rattle.klaim.specs.Reader.{gives, refused, World, readBoth}
-use Rattle.klaim.proofs.Reader.{NetOk, EstimateOk, both-read}
+use Rattle.klaim.proofs.Reader.{both-read}
 use Rattle.tables.specs.View.{rowAt, rowsView, rootsView, netView, estimateView}
 use Rattle.tables.proofs.Lines.{length-view}
 use Rattle.report.specs.Given.{Rooted, Given}
 use Rattle.report.proofs.Ready.{rooted, given}
-use Rattle.rules.specs.Masks.{Sized}
 use Rattle.verdict.specs.Verdict.{Tabled, Judgeable}
 use Rattle.worlds.specs.declared.WorldRead.{WorldRead}
 use Rattle.worlds.specs.World.{worldView, worldAnswer}
@@ -89,24 +87,8 @@ leb-cases k n = go (leb n k) refl
     go false e = inl (nleb-lt n k e)
 
 -- the first i bytes of a report stand in a buffer
-pub record Copied (old bytes new : List ℕ) (i : ℕ) : Type 0 where
-  pub long : length new ≡ length old
-  pub done : (k : ℕ) → k < i → getD new k 0 ≡ getD bytes k 0
-  pub kept : (k : ℕ) → i ≤ k → getD new k 0 ≡ getD old k 0
-
-pub copied-none : (old bytes : List ℕ) → Copied old bytes old 0
-copied-none old bytes = record { long = refl; done = λ k h. absurd (omega arith); kept = λ k h. refl }
-
-pub copied-more : {old bytes new : List ℕ} {i : ℕ} → Copied old bytes new i → i < length old → Copied old bytes (set new i (getD bytes i 0)) (i + 1)
-copied-more {old} {bytes} {new} {i} C h = record {
-  long = length-set new i (getD bytes i 0) ∙ C .long;
-  done = λ k g. at k g (ℕ-discrete k i);
-  kept = λ k g. getD-set-other new i k (getD bytes i 0) 0 (λ e. omega arith) ∙ C .kept k (omega arith);
-}
-  where
-    at : (k : ℕ) → k < i + 1 → Dec (k ≡ i) → getD (set new i (getD bytes i 0)) k 0 ≡ getD bytes k 0
-    at k g (yes e) = rw e (getD-set-same new i (getD bytes i 0) 0 (omega (arith, C .long)))
-    at k g (no e) = getD-set-other new i k (getD bytes i 0) 0 e ∙ C .done k (omega arith)
+abbrev pub Copied : List ℕ → List ℕ → List ℕ → ℕ → Type 0
+Copied old bytes = Filled 0 (λ k. getD bytes k 0) old
 
 pub copied-all : {old bytes new : List ℕ} {i : ℕ} → Copied old bytes new i → 1024 ≤ i → i ≤ 1024 → length bytes ≡ 1024 → 1024 ≤ length old → new ≡ bytes ++ drop 1024 old
 copied-all {old} {bytes} {new} {i} C l m b h =
@@ -120,7 +102,7 @@ copied-all {old} {bytes} {new} {i} C l m b h =
     at k (inr g) =
         let e : k ≡ length bytes + (k - 1024) = omega arith in
         let q : 1024 + (k - 1024) ≡ k = omega arith in
-        C .kept k (omega arith)
+        C .rest k (omega arith)
         ∙ ap (λ (j : ℕ). getD old j 0) (sym q)
         ∙ sym (getD-drop 1024 old (k - 1024) 0)
         ∙ sym (getD-append-add bytes (drop 1024 old) (k - 1024) 0)

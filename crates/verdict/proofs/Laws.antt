@@ -14,11 +14,11 @@ use Rattle.sets.proofs.Tables.{getD-table, length-table, table-drop}
 use Rattle.klaim.specs.Process.{Line, tree}
 use Rattle.klaim.specs.Net.{Root, Net, Estimate}
 use Rattle.klaim.specs.Analysis.{firstNot, least, stands, broken, placeSet, process, accepted, brokenT, brokenQ, brokenTuple, brokenLine, verdictOf, verdict}
-use Rattle.tables.specs.View.{rootAt, linesView}
+use Rattle.tables.specs.View.{rootAt, rowsView, linesView}
+use Rattle.rules.specs.Masks.{IndexOf}
 use Rattle.broken.specs.Lowest.{lowest, found}
 use Rattle.broken.proofs.Laws.{lowest-both}
 use Rattle.broken.proofs.Lines.{broken-low, least-found}
-use Rattle.verdict.specs.Verdict.{placeOf}
 
 -- the first place that does not pass
 module _ {A : Type 0} (f : A → Bool) where
@@ -39,14 +39,14 @@ module _ {A : Type 0} (f : A → Bool) where
 
   -- of a table
   module _ (n : ℕ) (g : ℕ → A) where
-    pub table-at : (i : ℕ) → ((k : ℕ) → k < i → f (g k) ≡ true) → i < n → f (g i) ≡ false → placeOf n i ≡ firstNot f (table n g)
-    unfolding placeOf
+    pub table-at : (i : ℕ) → ((k : ℕ) → k < i → f (g k) ≡ true) → i < n → f (g i) ≡ false → found n i ≡ firstNot f (table n g)
+    unfolding found
     table-at i h l e =
         rw (ne-eqb i n (λ q. omega arith))
         (sym (first-at (table n g) i (g 0) (λ k q. ap f (getD-table n g k (g 0) (omega arith)) ∙ h k q) (omega (arith, length-table n g)) (ap f (getD-table n g i (g 0) l) ∙ e)))
 
-    pub table-none : (i : ℕ) → ((k : ℕ) → k < i → f (g k) ≡ true) → i ≡ n → placeOf n i ≡ firstNot f (table n g)
-    unfolding placeOf
+    pub table-none : (i : ℕ) → ((k : ℕ) → k < i → f (g k) ≡ true) → i ≡ n → found n i ≡ firstNot f (table n g)
+    unfolding found
     table-none i h e =
         rw (eq-eqb i n e)
         (sym (first-none (table n g) (g 0) (λ k q. let l : k < n = omega (arith, length-table n g) in ap f (getD-table n g k (g 0) l) ∙ h k (omega arith))))
@@ -68,16 +68,16 @@ root-broken N E rs bs n i e = ap (λ (ls : List Line). broken N E (2 ^ getD rs (
 
 -- the verdict by the two places
 module _ (i n q : ℕ) where
-  pub tuple-verdict : (i ≡ n → ⊥) → brokenT i ≡ verdictOf (placeOf n i) (found q)
-  unfolding placeOf verdictOf
+  pub tuple-verdict : (i ≡ n → ⊥) → brokenT i ≡ verdictOf (found n i) (found 256 q)
+  unfolding found verdictOf
   tuple-verdict h = rw (ne-eqb i n h)
 
-  pub line-verdict : i ≡ n → (q ≡ 256 → ⊥) → brokenQ q ≡ verdictOf (placeOf n i) (found q)
-  unfolding placeOf found verdictOf
+  pub line-verdict : i ≡ n → (q ≡ 256 → ⊥) → brokenQ q ≡ verdictOf (found n i) (found 256 q)
+  unfolding found verdictOf
   line-verdict e h = rw (eq-eqb i n e, ne-eqb q 256 h)
 
-  pub no-verdict : i ≡ n → q ≡ 256 → accepted ≡ verdictOf (placeOf n i) (found q)
-  unfolding placeOf found verdictOf
+  pub no-verdict : i ≡ n → q ≡ 256 → accepted ≡ verdictOf (found n i) (found 256 q)
+  unfolding found verdictOf
   no-verdict e h = rw (eq-eqb i n e, eq-eqb q 256 h)
 
 roots-low : (N : Net) (E : Estimate) (rs : List Root) → length (N .lines) ≤ 256 → All (λ x. x < 256) (concat (λ r. broken N E (placeSet (r .site)) (process N r)) rs)
@@ -85,8 +85,13 @@ unfolding concat
 roots-low N E [] h = done
 roots-low N E (r ∷ rs) h = All-union (All-turn (λ x l. omega arith) (broken-low N E (placeSet (r .site)) (N .lines) (r .line))) (roots-low N E rs h)
 
-pub verdict-is : (N : Net) (E : Estimate) (i n q : ℕ) (ts ss : List (List ℕ)) (rs : List Root) → length (N .lines) ≤ 256 → N .tuples ≡ ts → E .stand ≡ ss → N .roots ≡ rs → placeOf n i ≡ firstNot (λ t. any (same t) ss) ts → q ≡ lowest (concat (λ r. broken N E (placeSet (r .site)) (process N r)) rs) → verdictOf (placeOf n i) (found q) ≡ verdict N E
-unfolding verdict brokenTuple brokenLine stands
-verdict-is N E i n q ts ss rs few t s r p l =
-    ap₂ verdictOf (p ∙ ap₂ (λ (ss ts : List (List ℕ)). firstNot (λ t. any (same t) ss) ts) (sym s) (sym t))
-    (ap found l ∙ sym (least-found _ (roots-low N E rs few)) ∙ ap (λ (rs : List Root). least (concat (λ r. broken N E (placeSet (r .site)) (process N r)) rs)) (sym r))
+-- a tuple has a row
+pub row-stands : {E : Estimate} {index : List ℕ} (w : IndexOf E index) (t : List ℕ) {b : Bool} → b ≡ any (same t) (rowsView (w .count) (w .bytes)) → b ≡ stands E t
+unfolding stands
+row-stands w t h = h ∙ ap (any (same t)) (sym (w .rows))
+
+pub verdict-is : (N : Net) (E : Estimate) (i n q : ℕ) (ts : List (List ℕ)) (rs : List Root) → length (N .lines) ≤ 256 → N .tuples ≡ ts → N .roots ≡ rs → found n i ≡ firstNot (stands E) ts → q ≡ lowest (concat (λ r. broken N E (placeSet (r .site)) (process N r)) rs) → verdictOf (found n i) (found 256 q) ≡ verdict N E
+unfolding verdict brokenTuple brokenLine
+verdict-is N E i n q ts rs few t r p l =
+    ap₂ verdictOf (p ∙ ap (firstNot (stands E)) (sym t))
+    (ap (found 256) l ∙ sym (least-found _ (roots-low N E rs few)) ∙ ap (λ (rs : List Root). least (concat (λ r. broken N E (placeSet (r .site)) (process N r)) rs)) (sym r))

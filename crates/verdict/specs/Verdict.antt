@@ -1,11 +1,9 @@
 -- The code's verdict, and its places as the definitions have them.
 -- Assumes nothing.
 use mathlib.Core.Path.{_≡_}
-use mathlib.Core.Bool.{cond, true}
+use mathlib.Core.Bool.{true}
 use mathlib.Core.List.{List}
-use mathlib.Core.Option.{Option, none, some}
 use Prim.Native.Nat.{ℕ, _≤_}
-use lib.Dec.{eqb}
 use lib.ListN.{length}
 use Rattle.sets.specs.Lists.{all}
 use Rattle.klaim.specs.Net.{Net, Estimate}
@@ -22,10 +20,6 @@ unfoldable pub verdictView : Verdict → Spec.Verdict
 verdictView Accepted = Spec.accepted
 verdictView (BrokenTuple i) = Spec.brokenT i
 verdictView (BrokenLine q) = Spec.brokenQ q
-
--- a place below n; n stands for none
-unfoldable pub placeOf : ℕ → ℕ → Option ℕ
-placeOf n i = cond (eqb i n) none (some i)
 
 -- a net and an estimate have these tables
 pub record Tabled (N : Net) (E : Estimate) (boxes tuples : List ℕ) (ntuples : ℕ) (roots : List ℕ) (nroots : ℕ) (lines : List ℕ) (nlines : ℕ) (binds stand : List ℕ) (nstand : ℕ) (hold : List ℕ) : Type 0 where

@@ -1,19 +1,17 @@
 //! The verdict on a net and its estimate: accepted, or the first broken rule.
 ghost use mathlib.Core.Path.{_≡_};
 ghost use mathlib.Core.Bool.{true};
-ghost use mathlib.Core.List.{List};
-ghost use Prim.Native.Nat.{ℕ, _≤_};
+ghost use Prim.Native.Nat.{_≤_};
 ghost use lib.ListN.{length};
-ghost use Rattle.sets.specs.Lists.{any, all, same, concat};
+ghost use Rattle.sets.specs.Lists.{all, concat};
 ghost use Rattle.klaim.specs.Net.{Net, Estimate};
 ghost use Rattle.klaim.specs.Analysis.{stands, firstNot, broken as brokenOf, placeSet, process, verdict as verdictOf, verdictOf as verdictBy};
 ghost use Rattle.klaim.specs.Invariant.{allBelow};
-ghost use Rattle.tables.specs.View.{rowAt, rowsView, rootsView, rootAt, linesView};
-ghost use Rattle.matching.specs.Index.{Indexed, Low};
+ghost use Rattle.tables.specs.View.{rowsView, rootsView, linesView};
 ghost use Rattle.rules.specs.Masks.{IndexOf};
-ghost use Rattle.report.specs.Given.{Rooted, Given};
+ghost use Rattle.report.specs.Given.{Rooted};
 ghost use Rattle.broken.specs.Lowest.{lowest, found};
-ghost use Rattle.verdict.specs.Verdict.{verdictView, placeOf, Tabled, Judgeable};
+ghost use Rattle.verdict.specs.Verdict.{verdictView, Tabled, Judgeable};
 
 pub enum Verdict {
     Accepted,
@@ -24,7 +22,7 @@ pub enum Verdict {
 // The first of the T rows whose tuple has no A row, by the index of these; their number, where there is none.
 fn first_missing(tuples: &[u8; 1536], count: usize, index: &[u64; 768]) -> usize
     requires { ⌜ (count ≤ 256) × (length (now tuples) ≡ 1536) × (all (allBelow 32) (rowsView count (now tuples)) ≡ true) × (length (now index) ≡ 768) ⌝ }
-    ensures { λ r. ⌜ ((n : ℕ) (bs : List ℕ) → Indexed n bs (now (index .entry)) → Low n bs → placeOf count r ≡ firstNot (λ t. any (same t) (rowsView n bs)) (rowsView count (now (tuples .entry)))) × (r ≤ count) ⌝ }
+    ensures { λ r. ⌜ ((E : Estimate) → IndexOf E (now (index .entry)) → found count r ≡ firstNot (stands E) (rowsView count (now (tuples .entry)))) × (r ≤ count) ⌝ }
 {
     let mut i = 0;
     while i < count {
@@ -73,7 +71,7 @@ fn first_line(
 
 // The verdict by the place of the first T row and by the first line.
 fn decide(i: u16, count: u16, q: u16) -> Verdict
-    ensures { λ r. ⌜ verdictView r ≡ verdictBy (placeOf count i) (found q) ⌝ }
+    ensures { λ r. ⌜ verdictView r ≡ verdictBy (found count i) (found 256 q) ⌝ }
 {
     if i != count {
         return Verdict::BrokenTuple(i);

@@ -1,9 +1,10 @@
 use borrow.Author.Needs.{needs}
 use Prim.Native.Nat.{_≤_, _-_}
 use native.Mathlib.Omega.{arith}
-use mathlib.Core.Path.{_≡_}
+use mathlib.Core.Path.{_≡_, refl}
 use lib.ListN.{length}
-use Rattle.checker.proofs.Laws.{Copied, copied-none, copied-more, copied-all}
+use Rattle.sets.proofs.Tables.{filled-none, filled-more}
+use Rattle.checker.proofs.Laws.{Copied, copied-all}
 use Rattle.checker.proofs.write_report.Statement.{statement}
 use Rattle.checker.proofs.write_report.Tie as tie
 use Rattle.checker.proofs.write_report.Reads as reads
@@ -20,7 +21,7 @@ bytes-long c = search needs
 
 -- src/lib.rt:71:5
 loop-holds : tie.Need-loop-holds Inv-loop μ-loop
-loop-holds c = (omega arith, copied-none _ _)
+loop-holds c = (omega arith, filled-none _ _ _)
 
 -- src/lib.rt:72:21
 array-read-buffer : tie.Need-array-read-buffer Inv-loop μ-loop
@@ -40,7 +41,7 @@ loop-less c = search needs
 
 -- src/lib.rt:71:5
 loop-again : tie.Need-loop-again Inv-loop μ-loop
-loop-again c = (omega arith, copied-more (c .before .loop .inv .1) (omega (arith, c .loop-test .taken, c .before .before .pre)))
+loop-again c = (omega arith, filled-more (c .before .loop .inv .1) (omega (arith, c .loop-test .taken, c .before .before .pre)) refl)
 
 -- src/lib.rt:66:1
 same-length : tie.Need-same-length Inv-loop μ-loop

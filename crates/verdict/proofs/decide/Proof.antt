@@ -1,4 +1,3 @@
-use borrow.Author.Needs.{needs}
 use Rattle.verdict.specs.Verdict.{verdictView}
 use Rattle.verdict.proofs.Laws.{tuple-verdict, line-verdict, no-verdict}
 use Rattle.verdict.proofs.decide.Statement.{statement}

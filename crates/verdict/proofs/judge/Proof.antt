@@ -2,7 +2,7 @@ use mathlib.Core.Path.{ap, _∙_}
 use native.Mathlib.Omega.{arith}
 use lib.ListN.{length}
 use Rattle.tables.proofs.Lines.{length-view}
-use Rattle.matching.specs.Index.{Low}
+use Rattle.rules.specs.Masks.{IndexOf}
 use Rattle.verdict.proofs.Laws.{verdict-is}
 use borrow.Author.Needs.{needs}
 use Rattle.verdict.proofs.judge.Statement.{statement}
@@ -43,8 +43,9 @@ returns : tie.Need-returns
 returns c =
     let s = c .before .before .before .before .before .before .before in
     let made = c .before .before .before .before .before .fill .ensures .0 in
-    let low : Low (s .args .n) (s .args .rows .now) = search needs in
-    λ N E t. c .decide .ensures ∙ verdict-is N E _ _ _ _ _ _ (omega (arith, ap length (t .linesIs) ∙ length-view (s .args .nlines) (s .args .lines .now), s .pre .linesFew)) (t .tuplesIs) (t .standIs) (t .rootsIs) (c .before .before .before .first-missing .ensures .0 (s .args .n) (s .args .rows .now) made low) (c .before .first-line .ensures N E (t .boxesIs) (t .linesIs) (t .bindsIs) (t .holdIs) (record { count = s .args .n; bytes = s .args .rows .now; rows = t .standIs; sized = s .pre .sized; made = made }))
+    λ N E t.
+    let w : IndexOf E _ = record { count = s .args .n; bytes = s .args .rows .now; rows = t .standIs; sized = s .pre .sized; made = made } in
+    c .decide .ensures ∙ verdict-is N E _ _ _ _ _ (omega (arith, ap length (t .linesIs) ∙ length-view (s .args .nlines) (s .args .lines .now), s .pre .linesFew)) (t .tuplesIs) (t .rootsIs) (c .before .before .before .first-missing .ensures .0 E w) (c .before .first-line .ensures N E (t .boxesIs) (t .linesIs) (t .bindsIs) (t .holdIs) w)
 
 pub judge-spec : {M : Type 1} → statement M
 judge-spec =
