@@ -9,7 +9,7 @@ use native.Mathlib.Numerals.{add-one}
 use native.Mathlib.Decide.{ℕ-discrete}
 use borrow.Author.Tests.{eq-eqb, ne-eqb, lt-ltb, le-ltb}
 use lib.Dec.{eqb, ltb}
-use lib.ListN.{length, getD, set, take, List·getD-append}
+use lib.ListN.{length, length-set, getD, set, take, List·getD-append}
 use lib.Seq.{take-suc-set, getD-take, length-take-le, getD-set-same, getD-set-other}
 use Rattle.sets.specs.Lists.{All, done, more, _&_, either}
 use Rattle.sets.specs.Bits.{mem, join}
@@ -129,11 +129,11 @@ module _ (st : State) (f : Fits st) where
   }
 
   -- an arrival's root is a line
-  root-low : st .narrivals ≤ length (st .arrivals) → (i : ℕ) → i < st .narrivals → getD (st .arrivals) i 0 < length (linesView (st .nlines) (st .lines))
+  root-low : (i : ℕ) → i < st .narrivals → getD (st .arrivals) i 0 < length (linesView (st .nlines) (st .lines))
   unfolding stateView
-  root-low long i h =
+  root-low i h =
       subst (λ (r : ℕ). r < length (linesView (st .nlines) (st .lines))) (getD-take (st .narrivals) (st .arrivals) i 0 h)
-      (all-place (f .invariant .arrivals-ok) i (omega (arith, length-take-le (st .narrivals) (st .arrivals) long)) .present)
+      (all-place (f .invariant .arrivals-ok) i (omega (arith, length-take-le (st .narrivals) (st .arrivals) (omega (arith, f .arrivals-long, f .arrivals-few, lines-few)))) .present)
 
   module _ (rows : List ℕ) (a : ArrivalRead) (e : arrivalAnswer a ≡ readArrival (st .net .size) (st .nlines) rows) where
     bring-read : bring (stateView st) rows ≡ bringRead (stateView st) (arrivalAnswer a)
@@ -145,7 +145,7 @@ module _ (st : State) (f : Fits st) where
     refused-read h = ap (λ (b : Bool). cond b (gives (linesView (a .count) (a .lines))) (refused (a .number) (a .row))) (ne-eqb (a .number) 0 h)
 
     -- a refusal leaves the state as it is
-    pub refused-bring : (a .number ≡ 0 → ⊥) → (next : State) → stateView next ≡ stateView st → answerView (next .told) ≡ refused (a .number) (a .row) → Fits next → Brought st rows next
+    pub refused-bring : (a .number ≡ 0 → ⊥) → (next : State) → stateView next ≡ stateView st → answerView (next .run .told) ≡ refused (a .number) (a .row) → Fits next → Brought st rows next
     unfolding resultView bringRead
     refused-bring h next v w g = record {
       result = rw (v, w) (sym (bring-read ∙ ap (bringRead (stateView st)) (refused-read h)));
@@ -195,30 +195,32 @@ module _ (st : State) (f : Fits st) where
           arrivals = set (st .arrivals) (st .narrivals) (st .nlines);
           narrivals = st .narrivals + 1;
           sound = set (st .sound) (st .narrivals) sites;
-          threads = st .threads;
-          nthreads = st .nthreads;
-          tuples = st .tuples;
-          ntuples = st .ntuples;
-          told = told;
+          run = record {
+            threads = st .run .threads;
+            nthreads = st .run .nthreads;
+            tuples = st .run .tuples;
+            ntuples = st .run .ntuples;
+            told = told;
+          };
         }
 
         own-lines : linesView (st .own) new ≡ linesView (st .own) (st .lines)
         own-lines = own-kept (st .own) (st .nlines) (a .count) (st .lines) new _ (f .own-few) j
 
-        module _ (long : length (st .arrivals) ≡ 256) (wide : length (st .sound) ≡ 256) (sites : ℕ) (told : Told) where
+        module _ (sites : ℕ) (told : Told) where
           room : st .narrivals < 256
           room = omega (arith, f .arrivals-few, some-line, few)
 
           behind-view : stateView (behind sites told) ≡ joined (stateView st) (linesView (a .count) (a .lines))
           unfolding stateView joined
-          behind-view = rw (own-lines, j, root-more (st .arrivals) (st .narrivals) (st .nlines) (omega (arith, long, room)), length-view (st .nlines) (st .lines))
+          behind-view = rw (own-lines, j, root-more (st .arrivals) (st .narrivals) (st .nlines) (omega (arith, f .arrivals-long, room)), length-view (st .nlines) (st .lines))
 
           -- lines put behind the present ones change no tree
           sound-old : (i l : ℕ) → i < st .narrivals → soundAt (behind sites told) i l ≡ soundAt st i l
           unfolding soundAt stateView
           sound-old i l h =
               let root : getD (set (st .arrivals) (st .narrivals) (st .nlines)) i 0 ≡ getD (st .arrivals) i 0 = getD-set-other (st .arrivals) (st .narrivals) i (st .nlines) 0 (λ q. omega arith) in
-              let low : getD (st .arrivals) i 0 < length (linesView (st .nlines) (st .lines)) = root-low (omega (arith, long, room)) i h in
+              let low : getD (st .arrivals) i 0 < length (linesView (st .nlines) (st .lines)) = root-low i h in
               let t : tree (linesView (st .nlines + a .count) new) (getD (st .arrivals) i 0) ≡ tree (linesView (st .nlines) (st .lines)) (getD (st .arrivals) i 0) = ap (λ (ls : List Line). tree ls (getD (st .arrivals) i 0)) j ∙ tree-old (linesView (st .nlines) (st .lines)) _ (getD (st .arrivals) i 0) (f .invariant .lines-ordered) low in
               ap₂ (λ (ls : List Line) (r : ℕ). sound (groundView (st .net) ls) (estimateView (st .estimate)) l (tree (linesView (st .nlines + a .count) new) r)) own-lines root
               ∙ ap (sound (groundView (st .net) (linesView (st .own) (st .lines))) (estimateView (st .estimate)) l) t
@@ -228,7 +230,7 @@ module _ (st : State) (f : Fits st) where
             unfolding soundAt stateView groundView estimateView
             sound-new l h =
                 s (groundView (st .net) (linesView (st .own) new)) (estimateView (st .estimate)) refl refl refl refl l h
-                ∙ ap (λ (r : ℕ). sound (groundView (st .net) (linesView (st .own) new)) (estimateView (st .estimate)) l (tree (linesView (st .nlines + a .count) new) r)) (sym (getD-set-same (st .arrivals) (st .narrivals) (st .nlines) 0 (omega (arith, long, room))))
+                ∙ ap (λ (r : ℕ). sound (groundView (st .net) (linesView (st .own) new)) (estimateView (st .estimate)) l (tree (linesView (st .nlines + a .count) new) r)) (sym (getD-set-same (st .arrivals) (st .narrivals) (st .nlines) 0 (omega (arith, f .arrivals-long, room))))
 
             sound-all : (i l : ℕ) → i < st .narrivals + 1 → l < st .net .size → mem l (getD (set (st .sound) (st .narrivals) sites) i 0) ≡ soundAt (behind sites told) i l
             sound-all i l h k = go (ℕ-discrete i (st .narrivals))
@@ -236,7 +238,7 @@ module _ (st : State) (f : Fits st) where
                 go : Dec (i ≡ st .narrivals) → mem l (getD (set (st .sound) (st .narrivals) sites) i 0) ≡ soundAt (behind sites told) i l
                 go (yes p) =
                     ap (λ (x : ℕ). mem l (getD (set (st .sound) (st .narrivals) sites) x 0)) p
-                    ∙ ap (mem l) (getD-set-same (st .sound) (st .narrivals) sites 0 (omega (arith, wide, room)))
+                    ∙ ap (mem l) (getD-set-same (st .sound) (st .narrivals) sites 0 (omega (arith, f .sound-long, room)))
                     ∙ sound-new l k
                     ∙ ap (λ (x : ℕ). soundAt (behind sites told) x l) (sym p)
                 go (no p) =
@@ -244,11 +246,14 @@ module _ (st : State) (f : Fits st) where
                     ∙ f .sound-is i l (omega arith) k
                     ∙ sym (sound-old i l (omega arith))
 
-            pub joined-brought : answerView told ≡ gives (brought (st .nlines)) → Brought st rows (behind sites told)
+            pub joined-brought : length new ≡ 2560 → answerView told ≡ gives (brought (st .nlines)) → Brought st rows (behind sites told)
             unfolding resultView
-            joined-brought q = record {
+            joined-brought long q = record {
               result = rw (behind-view, q) (sym joined-bring);
               fits = record {
+                lines-long = long;
+                arrivals-long = length-set (st .arrivals) (st .narrivals) (st .nlines) ∙ f .arrivals-long;
+                sound-long = length-set (st .sound) (st .narrivals) sites ∙ f .sound-long;
                 threads-few = f .threads-few;
                 own-few = omega (arith, f .own-few);
                 arrivals-few = omega (arith, some-line, f .arrivals-few);

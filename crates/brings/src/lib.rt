@@ -59,12 +59,13 @@ pub fn bring(state: State, rows: &[u8]) -> State
     ensures { λ next. ⌜ Brought state (now (rows .entry)) next ⌝ }
 {
     let mut next = state;
-    let size = state.net.size;
+    let mut run = state.run;
     let n = state.nlines;
-    let read = arrivals::read_arrival(size, n, rows);
+    let read = arrivals::read_arrival(state.net.size, n, rows);
     let number = read.number;
     if number != 0 {
-        next.told = state::refused(number, read.row);
+        run.told = state::refused(number, read.row);
+        next.run = run;
         return next;
     }
     let m = read.count;
@@ -72,7 +73,6 @@ pub fn bring(state: State, rows: &[u8]) -> State
     renumber::append_moved(&mut next.lines, n, &arrival, m);
     let count = n + m;
     let root = n as u8;
-    let nstand = next.estimate.nstand;
     let sites = sound_sites(
         &next.lines,
         count,
@@ -80,8 +80,8 @@ pub fn bring(state: State, rows: &[u8]) -> State
         &next.estimate.binds,
         &next.estimate.hold,
         &next.estimate.stand,
-        nstand,
-        size,
+        next.estimate.nstand,
+        next.net.size,
         root,
     );
     let k = next.narrivals;
@@ -89,6 +89,7 @@ pub fn bring(state: State, rows: &[u8]) -> State
     next.arrivals[k] = root;
     next.sound[k] = sites;
     next.narrivals = k + 1;
-    next.told = state::brought(root);
+    run.told = state::brought(root);
+    next.run = run;
     next
 }

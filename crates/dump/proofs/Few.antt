@@ -9,9 +9,9 @@ use Rattle.state.specs.declared.State.{State}
 use Rattle.state.specs.View.{stateView}
 use Rattle.state.specs.Fits.{Fits}
 
-pub tuples-few : (st : State) → Fits st → st .ntuples ≤ 256
+pub tuples-few : (st : State) → Fits st → st .run .ntuples ≤ 256
 unfolding stateView rowsView
-tuples-few st f = omega (arith, length-table (st .ntuples) (rowAt (st .tuples)), f .invariant .tuples-few)
+tuples-few st f = omega (arith, length-table (st .run .ntuples) (rowAt (st .run .tuples)), f .invariant .tuples-few)
 
 pub arrivals-few : (st : State) → Fits st → st .narrivals ≤ 256
 unfolding stateView

@@ -255,10 +255,12 @@ fn say_counts(threads: usize, tuples: usize, lines: usize) {
 pub fn say_state(state: State)
     requires { ⌜ Fits state ⌝ }
 {
-    say_counts(state.nthreads, state.ntuples, state.nlines);
-    let items = state.threads;
-    say_threads(items, state.nthreads);
-    say_tuples(&state.tuples, state.ntuples);
+    let n = state.run.nthreads;
+    let m = state.run.ntuples;
+    say_counts(n, m, state.nlines);
+    let items = state.run.threads;
+    say_threads(items, n);
+    say_tuples(&state.run.tuples, m);
     answers::say_count(b"lines,", state.nlines);
     let roots = state.arrivals;
     say_roots(roots, state.narrivals);

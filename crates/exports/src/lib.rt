@@ -4,9 +4,11 @@ ghost use mathlib.Core.Path.{_≡_};
 ghost use Prim.Native.Nat.{_<_, _≤_};
 ghost use lib.ListN.{length};
 ghost use Rattle.state.specs.Fits.{Fits};
+ghost use Rattle.state.specs.Lent.{goneOn};
 use checker::Answer;
 use ready::DoorAnswer;
 use ready::ReadyAnswer;
+use state::Run;
 use state::State;
 
 // What is added to the number of a broken T row, of a broken line, of a refusal; accepted is 0.
@@ -108,28 +110,20 @@ fn brought(state: State, arrival: &[u8]) -> State
     brings::bring(state, arrival)
 }
 
-// The state behind one bare step for every three of the choices.
-fn prepared(state: State, choices: &[u8]) -> State
-    requires { ⌜ Fits state ⌝ }
-    ensures { λ last. ⌜ Fits last ⌝ }
-{
-    let mut last = state;
-    let mut at: usize = 0;
-    while at < choices.len() {
-        let k = choice(choices, at);
-        let m = choice(choices, at + 1);
-        let r = choice(choices, at + 2);
-        last = step::step(last, false, k, m, r);
-        at += CHOICE;
-    }
-    last
+// Steps made: the run behind them, and how many of them were performed.
+pub struct Walked {
+    pub run: Run,
+    pub performed: u32,
 }
 
-// Steps, guarded or bare, each by the next three of the choices: how many of them were performed.
-fn steps(state: State, guarded: bool, choices: &[u8], count: usize) -> u32
+// Steps, guarded or bare, each by the next three of the choices.
+fn steps(state: State, guarded: bool, choices: &[u8], count: usize) -> Walked
     requires { ⌜ Fits state ⌝ }
+    ensures { λ w. ⌜ Fits (goneOn state (w .run)) ⌝ }
 {
-    let mut last = state;
+    let nlines = state.nlines;
+    let narrivals = state.narrivals;
+    let mut run = state.run;
     let mut performed: u32 = 0;
     let mut at: usize = 0;
     let mut i: usize = 0;
@@ -137,12 +131,38 @@ fn steps(state: State, guarded: bool, choices: &[u8], count: usize) -> u32
         let k = choice(choices, at);
         let m = choice(choices, at + 1);
         let r = choice(choices, at + 2);
-        last = step::step(last, guarded, k, m, r);
-        performed = std::num::wrapping_add_u32(performed, done(last.told.number));
+        run = step::step(
+            &state.net.homes,
+            &state.net.boxes,
+            &state.estimate.binds,
+            &state.lines,
+            nlines,
+            &state.arrivals,
+            narrivals,
+            &state.sound,
+            run,
+            guarded,
+            k,
+            m,
+            r,
+        );
+        performed = std::num::wrapping_add_u32(performed, done(run.told.number));
         at = turned(at, choices.len());
         i += 1;
     }
-    performed
+    Walked { run, performed }
+}
+
+// The state behind one bare step for every three of the choices.
+fn prepared(state: State, choices: &[u8]) -> State
+    requires { ⌜ Fits state ⌝ }
+    ensures { λ last. ⌜ Fits last ⌝ }
+{
+    let walked = steps(state, false, choices, choices.len() / CHOICE);
+    let run = walked.run;
+    let mut last = state;
+    last.run = run;
+    last
 }
 
 // Asks what is ready: the sum of the places.
@@ -192,13 +212,14 @@ fn bring_times(state: State, arrival: &[u8], count: usize) -> State
 
 // Steps behind a start and a bring.
 fn steps_behind(state: State, guarded: bool, arrival: &[u8], choices: &[u8], count: usize) -> u32
-    requires { ⌜ (state .told .number ≡ 0 → Fits state) ⌝ }
+    requires { ⌜ (state .run .told .number ≡ 0 → Fits state) ⌝ }
 {
-    if state.told.number != 0 {
+    if state.run.told.number != 0 {
         return REFUSED;
     }
     let next = brought(state, arrival);
-    steps(next, guarded, choices, count)
+    let walked = steps(next, guarded, choices, count);
+    walked.performed
 }
 
 // Starts, brings the arrival and makes bare steps.
@@ -229,9 +250,9 @@ pub extern "C" fn salmurkki_guarded_steps(
 
 // The door behind a start and a bring.
 fn door_behind(state: State, arrival: &[u8], choices: &[u8], count: usize) -> u32
-    requires { ⌜ (state .told .number ≡ 0 → Fits state) ⌝ }
+    requires { ⌜ (state .run .told .number ≡ 0 → Fits state) ⌝ }
 {
-    if state.told.number != 0 {
+    if state.run.told.number != 0 {
         return REFUSED;
     }
     let next = brought(state, arrival);
@@ -253,9 +274,9 @@ pub extern "C" fn salmurkki_door(
 
 // What is ready behind a start, a bring and some steps.
 fn ready_behind(state: State, arrival: &[u8], choices: &[u8], count: usize) -> u32
-    requires { ⌜ (state .told .number ≡ 0 → Fits state) ⌝ }
+    requires { ⌜ (state .run .told .number ≡ 0 → Fits state) ⌝ }
 {
-    if state.told.number != 0 {
+    if state.run.told.number != 0 {
         return REFUSED;
     }
     let next = brought(state, arrival);
@@ -277,9 +298,9 @@ pub extern "C" fn salmurkki_ready(
 
 // An arrival brought behind a start, and what is then ready.
 fn bring_behind(state: State, arrival: &[u8], count: usize) -> u32
-    requires { ⌜ (state .told .number ≡ 0 → Fits state) ⌝ }
+    requires { ⌜ (state .run .told .number ≡ 0 → Fits state) ⌝ }
 {
-    if state.told.number != 0 {
+    if state.run.told.number != 0 {
         return REFUSED;
     }
     let last = bring_times(state, arrival, count);
@@ -300,9 +321,9 @@ pub extern "C" fn salmurkki_bring(
 
 // What is ready behind a start.
 fn start_behind(state: State) -> u32
-    requires { ⌜ (state .told .number ≡ 0 → Fits state) ⌝ }
+    requires { ⌜ (state .run .told .number ≡ 0 → Fits state) ⌝ }
 {
-    if state.told.number != 0 {
+    if state.run.told.number != 0 {
         return REFUSED;
     }
     placed(ready::ready(state))
@@ -310,7 +331,7 @@ fn start_behind(state: State) -> u32
 
 // Starts again and again.
 fn start_times(net: &[u8], estimate: &[u8], count: usize) -> State
-    ensures { λ last. ⌜ (last .told .number ≡ 0 → Fits last) ⌝ }
+    ensures { λ last. ⌜ (last .run .told .number ≡ 0 → Fits last) ⌝ }
 {
     let mut last = starts::start(net, estimate);
     let mut i: usize = 1;

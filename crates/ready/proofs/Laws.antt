@@ -4,11 +4,11 @@ use mathlib.Core.Path.{_≡_, refl, sym, ap, ap₂, subst, _∙_}
 use mathlib.Core.Bool.{Bool, true, false, cond}
 use mathlib.Core.List.{List, [], _∷_}
 use mathlib.Core.Option.{none, some}
-use Prim.Native.Nat.{ℕ, zero, suc, _+_, _*_, _<_, _≤_}
+use Prim.Native.Nat.{ℕ, zero, suc, _+_, _<_, _≤_}
 use native.Mathlib.Omega.{arith}
 use native.Mathlib.Nat.{add-zero, zero-add}
 use native.Mathlib.Decide.{ℕ-discrete}
-use borrow.Author.Tests.{eq-eqb, ne-eqb, le-ltb}
+use borrow.Author.Tests.{le-ltb}
 use lib.Dec.{ltb}
 use lib.ListN.{length, getD, getElem?, take}
 use lib.Seq.{length-take-le, getD-take}
@@ -34,19 +34,9 @@ use Rattle.state.specs.View.{groundView, stateView}
 use Rattle.state.specs.Fits.{soundAt, Fits}
 use Rattle.plan.specs.Move.{Tables, Plannable, Guests, Admits}
 use Rattle.ready.specs.declared.World.{World}
-use Rattle.ready.specs.Runs.{standing, room, welcome, runs}
+use Rattle.ready.specs.Runs.{room, welcome, runs}
 use Rattle.ready.specs.Scan.{firstOf, placeOf, stepsIn, Serves, Testable, AllTestable, Found}
 use Rattle.ready.proofs.Runnable.{From, runnable-is, lowest-start, lowest-here, lowest-later, lowest-end}
-
--- a thread that comes to line q stands there, unless that is `nil`
-module _ (n : ℕ) (bs : List ℕ) (q : ℕ) (h : q < n) where
-  pub stands-none : getD bs (10 * q) 0 ≡ 0 → 0 ≡ standing (linesView n bs) q
-  unfolding standing
-  stands-none e = sym (ap (λ (b : Bool). cond b 0 1) (sym (nil-test n bs q h) ∙ eq-eqb (getD bs (10 * q) 0) 0 e))
-
-  pub stands-one : (getD bs (10 * q) 0 ≡ 0 → ⊥) → 1 ≡ standing (linesView n bs) q
-  unfolding standing
-  stands-one e = sym (ap (λ (b : Bool). cond b 0 1) (sym (nil-test n bs q h) ∙ ne-eqb (getD bs (10 * q) 0) 0 e))
 
 -- a search through a list: found at a place, or at none
 module _ {A : Type 0} (f : A → Bool) (d : A) where
@@ -189,7 +179,7 @@ module _ (st : Spec.State) (inv : Invariant st) (w : World) (s : Serves st w) (i
 
 -- the tables of a state by value, and what its invariant gives of them
 module _ {st : State} (f : Fits st) where
-  pub tables : (l : ℕ) → l < st .net .size → Tables (stateView st) l (st .lines) (st .nlines) (st .net .boxes) (st .estimate .binds) (st .arrivals) (st .narrivals) (st .sound) (st .tuples) (st .ntuples)
+  pub tables : (l : ℕ) → l < st .net .size → Tables (stateView st) l (st .lines) (st .nlines) (st .net .boxes) (st .estimate .binds) (st .arrivals) (st .narrivals) (st .sound) (st .run .tuples) (st .run .ntuples)
   unfolding stateView groundView estimateView soundAt
   tables l h = record { linesIs = refl; boxesIs = refl; bindsIs = refl; arrivalsIs = refl; soundIs = λ i k. f .sound-is i l k h; tuplesIs = refl }
 
@@ -197,44 +187,43 @@ module _ {st : State} (f : Fits st) where
   unfolding stateView groundView
   fits-size = f .invariant .sites-few
 
-  module _ (long-lines : length (st .lines) ≡ 2560) (long-arrivals : length (st .arrivals) ≡ 256) (long-sound : length (st .sound) ≡ 256) where
-    pub fits-guests : Admits (st .lines) (st .nlines) (st .arrivals) (st .narrivals) (st .sound)
+  pub fits-guests : Admits (st .lines) (st .nlines) (st .arrivals) (st .narrivals) (st .sound)
+  unfolding stateView
+  fits-guests =
+      let v = f .invariant in
+      let n : length (linesView (st .nlines) (st .lines)) ≡ st .nlines = length-view (st .nlines) (st .lines) in
+      record {
+        linesLong = f .lines-long;
+        inOrder = v .lines-ordered;
+        arrivalsLong = f .arrivals-long;
+        arrivalsFew = omega (arith, v .lines-few, n, f .arrivals-few);
+        arrivalsPresent = λ r i. omega (arith, All-in (v .arrivals-ok) i .present, n);
+        setsLong = f .sound-long;
+      }
+
+  module _ (long-threads : length (st .run .threads) ≡ 64) (k : ℕ) (h : k < st .run .nthreads) where
+    thread-ok : ThreadOk (st .net .size) (linesView (st .nlines) (st .lines)) (threadView (getD (st .run .threads) k noThread))
+    unfolding stateView groundView
+    thread-ok = All-get k (f .invariant .threads-ok) (thread-some (st .run .nthreads) (st .run .threads) k h (omega (arith, long-threads, f .threads-few)))
+
+    fits-thread : length (st .run .tuples) ≡ 1536 → Plannable (st .lines) (st .nlines) (st .arrivals) (st .narrivals) (st .sound) (st .run .tuples) (st .run .ntuples) (getD (st .run .threads) k noThread)
     unfolding stateView
-    fits-guests =
+    fits-thread long-tuples =
         let v = f .invariant in
-        let n : length (linesView (st .nlines) (st .lines)) ≡ st .nlines = length-view (st .nlines) (st .lines) in
+        let g = fits-guests in
         record {
-          linesLong = long-lines;
-          inOrder = v .lines-ordered;
-          arrivalsLong = long-arrivals;
-          arrivalsFew = omega (arith, v .lines-few, n, f .arrivals-few);
-          arrivalsPresent = λ r i. omega (arith, All-in (v .arrivals-ok) i .present, n);
-          setsLong = long-sound;
+          linesLong = g .linesLong;
+          linesFew = omega (arith, v .lines-few, length-view (st .nlines) (st .lines));
+          inOrder = g .inOrder;
+          arrivalsLong = g .arrivalsLong;
+          arrivalsFew = g .arrivalsFew;
+          arrivalsPresent = g .arrivalsPresent;
+          setsLong = g .setsLong;
+          tuplesLong = long-tuples;
+          tuplesFew = omega (arith, v .tuples-few, rows-long (st .run .ntuples) (st .run .tuples));
+          threadPresent = omega (arith, thread-ok .present, length-view (st .nlines) (st .lines));
+          threadPlaced = omega (arith, thread-ok .placed, fits-size);
         }
-
-    module _ (long-threads : length (st .threads) ≡ 64) (k : ℕ) (h : k < st .nthreads) where
-      thread-ok : ThreadOk (st .net .size) (linesView (st .nlines) (st .lines)) (threadView (getD (st .threads) k noThread))
-      unfolding stateView groundView
-      thread-ok = All-get k (f .invariant .threads-ok) (thread-some (st .nthreads) (st .threads) k h (omega (arith, long-threads, f .threads-few)))
-
-      fits-thread : length (st .tuples) ≡ 1536 → Plannable (st .lines) (st .nlines) (st .arrivals) (st .narrivals) (st .sound) (st .tuples) (st .ntuples) (getD (st .threads) k noThread)
-      unfolding stateView
-      fits-thread long-tuples =
-          let v = f .invariant in
-          let g = fits-guests in
-          record {
-            linesLong = g .linesLong;
-            linesFew = omega (arith, v .lines-few, length-view (st .nlines) (st .lines));
-            inOrder = g .inOrder;
-            arrivalsLong = g .arrivalsLong;
-            arrivalsFew = g .arrivalsFew;
-            arrivalsPresent = g .arrivalsPresent;
-            setsLong = g .setsLong;
-            tuplesLong = long-tuples;
-            tuplesFew = omega (arith, v .tuples-few, rows-long (st .ntuples) (st .tuples));
-            threadPresent = omega (arith, thread-ok .present, length-view (st .nlines) (st .lines));
-            threadPlaced = omega (arith, thread-ok .placed, fits-size);
-          }
 
 -- what ready reads of a state
 abbrev pub worldOf : State → World
@@ -246,25 +235,25 @@ worldOf st = record {
   arrivals = st .arrivals;
   narrivals = st .narrivals;
   sound = st .sound;
-  tuples = st .tuples;
-  ntuples = st .ntuples;
-  nthreads = st .nthreads;
+  tuples = st .run .tuples;
+  ntuples = st .run .ntuples;
+  nthreads = st .run .nthreads;
 }
 
-module _ {st : State} (f : Fits st) (long-threads : length (st .threads) ≡ 64) where
-  few : st .nthreads ≤ length (st .threads)
+module _ {st : State} (f : Fits st) (long-threads : length (st .run .threads) ≡ 64) where
+  few : st .run .nthreads ≤ length (st .run .threads)
   few = omega (arith, long-threads, f .threads-few)
 
-  pub fits-testable : length (st .lines) ≡ 2560 → length (st .arrivals) ≡ 256 → length (st .sound) ≡ 256 → length (st .tuples) ≡ 1536 → AllTestable (worldOf st) (take (st .nthreads) (st .threads))
-  fits-testable lines arrivals sound tuples = record {
+  pub fits-testable : length (st .run .tuples) ≡ 1536 → AllTestable (worldOf st) (take (st .run .nthreads) (st .run .threads))
+  fits-testable tuples = record {
     each = λ k h.
-        let l : k < st .nthreads = omega (arith, length-take-le (st .nthreads) (st .threads) few) in
-        subst (Testable (worldOf st)) (sym (getD-take (st .nthreads) (st .threads) k noThread l)) (record { plannable = fits-thread f lines arrivals sound long-threads k l tuples; few = f .threads-few });
+        let l : k < st .run .nthreads = omega (arith, length-take-le (st .run .nthreads) (st .run .threads) few) in
+        subst (Testable (worldOf st)) (sym (getD-take (st .run .nthreads) (st .run .threads) k noThread l)) (record { plannable = fits-thread f long-threads k l tuples; few = f .threads-few });
   }
 
-  pub fits-ready : (k : ℕ) → Found (worldOf st) (take (st .nthreads) (st .threads)) k → placeOf k (st .nthreads) ≡ ready (stateView st)
+  pub fits-ready : (k : ℕ) → Found (worldOf st) (take (st .run .nthreads) (st .run .threads)) k → placeOf k (st .run .nthreads) ≡ ready (stateView st)
   unfolding stateView groundView
-  fits-ready = ready-is (stateView st) (f .invariant) (worldOf st) (record { tables = tables f; threads = threads-long (st .nthreads) (st .threads) few }) (st .threads) (st .nthreads) refl few
+  fits-ready = ready-is (stateView st) (f .invariant) (worldOf st) (record { tables = tables f; threads = threads-long (st .run .nthreads) (st .run .threads) few }) (st .run .threads) (st .run .nthreads) refl few
 
 -- the door called by itself, test by test
 module _ (st : Spec.State) (r l d : ℕ) {b : Bool} (e : b ≡ among (st .arrivals) r) where

@@ -34,25 +34,23 @@ pub enum ReadyAnswer {
     Place(u8),
 }
 
-// How many threads stand on line q when one has come to it: none on `nil`.
-fn stands(lines: &[u8; 2560], q: u8) -> usize
-    requires { ⌜ length (now lines) ≡ 2560 ⌝ }
-    ensures { λ r. ⌜ (r ≤ 1) × ((n : ℕ) → q < n → r ≡ standing (linesView n (now (lines .entry))) q) ⌝ }
+// How many threads stand on line q of n when one has come to it: none on `nil`.
+fn stands(lines: &[u8; 2560], n: usize, q: u8) -> usize
+    ensures { λ r. ⌜ (r ≤ 1) × (r ≡ standing (linesView n (now (lines .entry))) q) ⌝ }
 {
-    let at = tables::LINE * (q as usize);
-    if lines[at] == 0 {
+    if tables::is_nil(lines, n, q) {
         return 0;
     }
     1
 }
 
-// Whether the thread list stays within its limit where one of `count` threads comes to line a, and one is appended on line b.
-fn has_room(lines: &[u8; 2560], count: usize, a: u8, b: u8) -> bool
-    requires { ⌜ (length (now lines) ≡ 2560) × (count ≤ 64) ⌝ }
-    ensures { λ r. ⌜ ((n : ℕ) → a < n → b < n → r ≡ roomOf count (linesView n (now (lines .entry))) a b) ⌝ }
+// Whether the thread list stays within its limit where one of `count` threads comes to line a of n, and one is appended on line b.
+fn has_room(lines: &[u8; 2560], n: usize, count: usize, a: u8, b: u8) -> bool
+    requires { ⌜ count ≤ 64 ⌝ }
+    ensures { λ r. ⌜ r ≡ roomOf count (linesView n (now (lines .entry))) a b ⌝ }
 {
-    let stay = stands(lines, a);
-    let come = stands(lines, b);
+    let stay = stands(lines, n, a);
+    let come = stands(lines, n, b);
     count + stay + come <= tables::THREADS + 1
 }
 
@@ -95,11 +93,11 @@ fn welcomes(
     d: u8,
     i: usize,
 ) -> bool
-    requires { ⌜ Admits (now lines) n (now arrivals) narrivals (now sound) × (l < 32) × (d < 32) × (a < n) × (count ≤ 64) × (i < narrivals) ⌝ }
+    requires { ⌜ Admits (now lines) n (now arrivals) narrivals (now sound) × (l < 32) × (d < 32) × (count ≤ 64) × (i < narrivals) ⌝ }
     ensures { λ r. ⌜ ((st : Spec.State) → Guests st l (now (lines .entry)) n (now (boxes .entry)) (now (binds .entry)) (now (arrivals .entry)) narrivals (now (sound .entry)) → r ≡ (doorOf (st .net) (st .estimate) d l (tree (st .lines) (getD (now (arrivals .entry)) i 0)) & roomOf count (st .lines) a (getD (now (arrivals .entry)) i 0))) ⌝ }
 {
     let q = arrivals[i];
-    if has_room(lines, count, a, q) {
+    if has_room(lines, n, count, a, q) {
         return plan::admitted(lines, n, boxes, binds, arrivals, narrivals, sound, i, l, d);
     }
     false
@@ -119,7 +117,7 @@ fn some_guest(
     a: u8,
     d: u8,
 ) -> bool
-    requires { ⌜ Admits (now lines) n (now arrivals) narrivals (now sound) × (th .site .0 < 32) × (d < 32) × (a < n) × (count ≤ 64) ⌝ }
+    requires { ⌜ Admits (now lines) n (now arrivals) narrivals (now sound) × (th .site .0 < 32) × (d < 32) × (count ≤ 64) ⌝ }
     ensures { λ r. ⌜ ((st : Spec.State) → Guests st (th .site .0) (now (lines .entry)) n (now (boxes .entry)) (now (binds .entry)) (now (arrivals .entry)) narrivals (now (sound .entry)) → length (st .threads) ≡ count → r ≡ any (welcome st (threadView th) a d) (st .arrivals)) ⌝ }
 {
     let here = th.site;
@@ -167,8 +165,8 @@ fn can_step<'a>(
     let q = th.line;
     match tables::action_at(lines, q) {
         Action::Nil => false,
-        Action::Par { next, second } => has_room(lines, count, next, second),
-        Action::Rep { next } => has_room(lines, count, q, next),
+        Action::Par { next, second } => has_room(lines, n, count, next, second),
+        Action::Rep { next } => has_room(lines, n, count, q, next),
         Action::Out {
             next: _,
             target: _,
@@ -189,7 +187,7 @@ fn can_step<'a>(
             target: _,
             body,
             sandbox: _,
-        } => has_room(lines, count, next, body),
+        } => has_room(lines, n, count, next, body),
         Action::Accept { next, sandbox } => some_guest(
             lines,
             n,
@@ -288,9 +286,9 @@ pub fn ready(state: State) -> ReadyAnswer
     let binds = state.estimate.binds;
     let arrivals = state.arrivals;
     let sound = state.sound;
-    let tuples = state.tuples;
-    let items = state.threads;
-    let n = state.nthreads;
+    let tuples = state.run.tuples;
+    let items = state.run.threads;
+    let n = state.run.nthreads;
     let w = World {
         lines,
         nlines: state.nlines,
@@ -300,7 +298,7 @@ pub fn ready(state: State) -> ReadyAnswer
         narrivals: state.narrivals,
         sound,
         tuples,
-        ntuples: state.ntuples,
+        ntuples: state.run.ntuples,
         nthreads: n,
     };
     let k = lowest(items, n, w);

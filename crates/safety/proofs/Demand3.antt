@@ -60,13 +60,13 @@ chain-safe N E report (next {st} {new} {c} {cs} made rest) s =
 
 -- a start that gives a state was not refused, and gives that one
 record Gave (st : State) (s : Spec.State) : Type 0 where
-  number : st .told .number ≡ 0
+  number : st .run .told .number ≡ 0
   state : stateView st ≡ s
 
 start-gave : (st : State) (s : Spec.State) → startView st ≡ gives s → Gave st s
 unfolding startView
 start-gave st s =
-    cond-at (λ (a : Answer Spec.State). a ≡ gives s → Gave st s) (eqb (st .told .number) 0)
+    cond-at (λ (a : Answer Spec.State). a ≡ gives s → Gave st s) (eqb (st .run .told .number) 0)
     (λ t e. record { number = eqb-eq t; state = cc }) (λ t. refused-none)
 
 -- a state that was begun has the net and the estimate that were read

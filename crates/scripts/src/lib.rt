@@ -61,8 +61,27 @@ fn act(state: State, guarded: bool, c: Command) -> State
     requires { ⌜ Fits state ⌝ }
     ensures { λ next. ⌜ Fits next ⌝ }
 {
-    let next = step::step(state, guarded, c.a, c.b, c.c);
-    say_step(next.told);
+    let nlines = state.nlines;
+    let narrivals = state.narrivals;
+    let run = state.run;
+    let behind = step::step(
+        &state.net.homes,
+        &state.net.boxes,
+        &state.estimate.binds,
+        &state.lines,
+        nlines,
+        &state.arrivals,
+        narrivals,
+        &state.sound,
+        run,
+        guarded,
+        c.a,
+        c.b,
+        c.c,
+    );
+    say_step(behind.told);
+    let mut next = state;
+    next.run = behind;
     next
 }
 
@@ -96,7 +115,7 @@ fn fetch(state: State, rest: &[u8]) -> State
 {
     let n = parts::before(rest);
     let next = brings::bring(state, &rest[..n]);
-    say_brought(next.told);
+    say_brought(next.run.told);
     next
 }
 
@@ -145,9 +164,9 @@ fn run_all(state: State, rows: &[u8]) -> State
 
 // Runs the commands on the state that begins, unless it was refused.
 fn carry_on(state: State, rows: &[u8])
-    requires { ⌜ (state .told .number ≡ 0 → Fits state) ⌝ }
+    requires { ⌜ (state .run .told .number ≡ 0 → Fits state) ⌝ }
 {
-    let told = state.told;
+    let told = state.run.told;
     if told.number != 0 {
         answers::say_refused(told.number, told.row);
         return;

@@ -7,6 +7,7 @@ use Prim.Native.Nat.{ℕ, _+_, _<_, _≤_}
 use native.Mathlib.Omega.{arith}
 use native.Mathlib.Numerals.{add-one}
 use borrow.Author.Tests.{eq-eqb, ne-eqb}
+use lib.ListN.{length}
 use Rattle.sets.specs.Lists.{concat, table, tableFrom}
 use Rattle.sets.proofs.Lists.{All-in, union-append}
 use Rattle.sets.proofs.Tables.{length-table, table-in, table-snoc}
@@ -19,6 +20,8 @@ use Rattle.klaim.specs.State as Spec
 use Rattle.klaim.specs.State.{isNil, settle, homePolicy, rootThread, begin, start}
 use Rattle.klaim.proofs.Reader.{NetOk, RootOk, both-read}
 use Rattle.klaim.proofs.Invariant.{start-gives}
+use Rattle.tables.specs.declared.Net as Tables
+use Rattle.tables.specs.declared.Estimate.{Estimate}
 use Rattle.tables.specs.View.{netView, rootAt, rootsView}
 use Rattle.tables.proofs.Lines.{length-view}
 use Rattle.threads.specs.View.{bindingsView, threadsView}
@@ -28,7 +31,7 @@ use Rattle.worlds.specs.World.{worldView, worldAnswer}
 use Rattle.state.specs.declared.State.{State}
 use Rattle.state.specs.View.{groundView, stateView}
 use Rattle.starts.specs.declared.Threads.{Threads}
-use Rattle.starts.specs.Started.{startView, Started, RootsIn, groundOf, begunOf}
+use Rattle.starts.specs.Started.{startView, Started, Fresh, RootsIn, groundOf, begunOf}
 
 -- the thread of a root
 pub root-view : (N : Net) (s q : ℕ) (ss : List Site) {p : List ℕ} → p ≡ homePolicy N s → record { site = s; policy = p; line = q; bindings = bindingsView 0 ss } ≡ rootThread N (record { site = s; line = q })
@@ -75,6 +78,18 @@ module _ (w : WorldRead) (ts : Threads) where
   unfolding startView begunOf groundOf worldAnswer worldView andThen begin stateView groundView netView
   begun-gives z e = rw (z, e)
 
+-- a state that begins is fresh
+pub begun-fresh : (N : Tables.Net) (E : Estimate) (ts : Threads) (number row : ℕ) → length (N .lines) ≡ 2560 → ts .count ≤ 64 → Fresh (begunOf N E ts number row)
+unfolding begunOf
+begun-fresh N E ts number row long few = record {
+  lines-long = long;
+  arrivals-long = refl;
+  sound-long = refl;
+  threads-few = few;
+  own-all = refl;
+  none-brought = refl;
+}
+
 -- what was read
 module _ (w : WorldRead) (net estimate : List ℕ) (e : worldAnswer w ≡ readBoth net estimate) where
   world-read : w .number ≡ 0 → readBoth net estimate ≡ gives (worldView w)
@@ -85,7 +100,7 @@ module _ (w : WorldRead) (net estimate : List ℕ) (e : worldAnswer w ≡ readBo
   unfolding worldView
   net-ok z = both-read net estimate (worldView w) (world-read z) .0
 
-  pub roots-in : w .number ≡ 0 → RootsIn (w .net .roots) (w .net .nroots) (w .net .nlines)
+  pub roots-in : w .number ≡ 0 → RootsIn (w .net .roots) (w .net .nroots)
   unfolding netView rootsView rootAt
   roots-in z =
       let ok = net-ok z in
@@ -93,20 +108,22 @@ module _ (w : WorldRead) (net estimate : List ℕ) (e : worldAnswer w ≡ readBo
       record {
         few = omega (arith, ok .roots-few, length-table (w .net .nroots) (rootAt (w .net .roots)));
         placed = λ i h. omega (arith, root i h .placed, ok .sites-few);
-        present = λ i h. omega (arith, root i h .present, length-view (w .net .nlines) (w .net .lines));
       }
 
-  pub started : (st : State) → startView st ≡ andThen (worldAnswer w) (λ x. gives (begin x)) → st .nthreads ≤ 64 → st .narrivals ≡ 0 → st .own ≡ st .nlines → Started net estimate st
+  pub started : (st : State) → startView st ≡ andThen (worldAnswer w) (λ x. gives (begin x)) → Fresh st → Started net estimate st
   unfolding start startView
-  started st q few none own =
+  started st q f =
       let r = q ∙ ap (λ (a : Answer World). andThen a (λ x. gives (begin x))) e in
       record {
         result = r;
         fits = λ z. record {
-          threads-few = few;
-          own-few = omega arith;
-          arrivals-few = omega arith;
-          sound-is = λ i l h k. absurd (omega (arith, none));
-          invariant = start-gives net estimate (stateView st) (sym r ∙ ap (λ (b : Bool). cond b (gives (stateView st)) (refused (st .told .number) (st .told .row))) (eq-eqb (st .told .number) 0 z));
+          lines-long = f .lines-long;
+          arrivals-long = f .arrivals-long;
+          sound-long = f .sound-long;
+          threads-few = f .threads-few;
+          own-few = omega (arith, f .own-all);
+          arrivals-few = omega (arith, f .none-brought);
+          sound-is = λ i l h k. absurd (omega (arith, f .none-brought));
+          invariant = start-gives net estimate (stateView st) (sym r ∙ ap (λ (b : Bool). cond b (gives (stateView st)) (refused (st .run .told .number) (st .run .told .row))) (eq-eqb (st .run .told .number) 0 z));
         };
       }

@@ -3,9 +3,9 @@
 use mathlib.Core.Path.{_≡_}
 use mathlib.Core.Bool.{cond}
 use mathlib.Core.List.{List}
-use Prim.Native.Nat.{ℕ, _+_, _*_, _<_, _≤_}
+use Prim.Native.Nat.{ℕ, _*_, _<_, _≤_}
 use lib.Dec.{eqb}
-use lib.ListN.{getD, replicate}
+use lib.ListN.{length, getD, replicate}
 use Rattle.klaim.specs.Reader.{Answer, refused, gives}
 use Rattle.klaim.specs.State as Spec
 use Rattle.tables.specs.declared.Net.{Net}
@@ -18,18 +18,26 @@ use Rattle.starts.specs.declared.Threads.{Threads}
 
 -- the state, or the number and the row of the refusal
 unfoldable pub startView : State → Answer Spec.State
-startView st = cond (eqb (st .told .number) 0) (gives (stateView st)) (refused (st .told .number) (st .told .row))
+startView st = cond (eqb (st .run .told .number) 0) (gives (stateView st)) (refused (st .run .told .number) (st .run .told .row))
 
 -- the engine began: the state or the refusal is that of document 01, and a state has the invariant
 pub record Started (net estimate : List ℕ) (st : State) : Type 0 where
   pub result : startView st ≡ Spec.start net estimate
-  pub fits : st .told .number ≡ 0 → Fits st
+  pub fits : st .run .told .number ≡ 0 → Fits st
 
--- each of n roots stands at one of 32 sites, and on one of the lines
-pub record RootsIn (roots : List ℕ) (n lines : ℕ) : Type 0 where
+-- nothing was brought yet: all lines are the net's, the threads lie within their array, and the tables are as long as their types say
+pub record Fresh (st : State) : Type 0 where
+  pub lines-long : length (st .lines) ≡ 2560
+  pub arrivals-long : length (st .arrivals) ≡ 256
+  pub sound-long : length (st .sound) ≡ 256
+  pub threads-few : st .run .nthreads ≤ 64
+  pub own-all : st .own ≡ st .nlines
+  pub none-brought : st .narrivals ≡ 0
+
+-- each of n roots stands at one of 32 sites
+pub record RootsIn (roots : List ℕ) (n : ℕ) : Type 0 where
   pub few : n ≤ 64
   pub placed : (i : ℕ) → i < n → getD roots (2 * i) 0 < 32
-  pub present : (i : ℕ) → i < n → getD roots (2 * i + 1) 0 < lines
 
 -- a net but for its lines
 unfoldable pub groundOf : Net → Ground
@@ -54,9 +62,11 @@ begunOf N E ts number row = record {
   arrivals = replicate 256 0;
   narrivals = 0;
   sound = replicate 256 0;
-  threads = ts .items;
-  nthreads = ts .count;
-  tuples = N .tuples;
-  ntuples = N .ntuples;
-  told = record { number = number; row = row; event = 1; site = 0; target = 0; right = 0 };
+  run = record {
+    threads = ts .items;
+    nthreads = ts .count;
+    tuples = N .tuples;
+    ntuples = N .ntuples;
+    told = record { number = number; row = row; event = 1; site = 0; target = 0; right = 0 };
+  };
 }

@@ -4,16 +4,16 @@ ghost use mathlib.Core.List.{[], _++_};
 ghost use Prim.Native.Nat.{ℕ, _+_, _*_, _<_, _≤_};
 ghost use lib.ListN.{length, getD};
 ghost use Rattle.sets.specs.Lists.{concat};
-ghost use Rattle.klaim.specs.Process.{lineAt};
 ghost use Rattle.klaim.specs.Net as Spec;
 ghost use Rattle.klaim.specs.Reader.{gives, andThen};
-ghost use Rattle.klaim.specs.State.{isNil, settle, rootThread, begin as beginOf};
+ghost use Rattle.klaim.specs.State.{settle, rootThread, begin as beginOf};
 ghost use Rattle.tables.specs.View.{linesView, rootsView};
 ghost use Rattle.threads.specs.View.{threadView, threadsView};
 ghost use Rattle.worlds.specs.World.{worldAnswer};
-ghost use Rattle.starts.specs.Started.{Started, RootsIn, startView, groundOf, begunOf};
+ghost use Rattle.starts.specs.Started.{Started, Fresh, RootsIn, startView, groundOf, begunOf};
 use klaim::Site;
 use state::Ground;
+use state::Run;
 use state::State;
 use state::Told;
 use tables::Estimate;
@@ -27,19 +27,9 @@ struct Threads {
     count: usize,
 }
 
-// Whether line q is `nil`.
-fn is_nil(lines: &[u8; 2560], q: u8) -> bool
-    requires { ⌜ length (now lines) ≡ 2560 ⌝ }
-    ensures { λ r. ⌜ ((n : ℕ) → q < n → r ≡ isNil (lineAt (linesView n (now (lines .entry))) q)) ⌝ }
-{
-    let at = tables::LINE * (q as usize);
-    lines[at] == 0
-}
-
 // The thread of a root: under the home policy of its site, nothing bound.
 fn root_thread(homes: &[u8; 1024], site: u8, line: u8) -> Thread
     requires { ⌜ site < 32 ⌝ }
-    ensures { λ th. ⌜ th .line ≡ line ⌝ }
     ensures { λ th. ⌜ ((N : Spec.Net) → N .homes ≡ now (homes .entry) → threadView th ≡ rootThread N (record { site = site; line = line })) ⌝ }
 {
     let policy = threads::home_policy(homes, site);
@@ -69,42 +59,41 @@ fn no_threads() -> Threads
 }
 
 // The list with a thread more, unless that stands on `nil`.
-fn with_thread(list: Threads, lines: &[u8; 2560], th: Thread) -> Threads
-    requires { ⌜ (list .count < 64) × (length (now lines) ≡ 2560) ⌝ }
+fn with_thread(list: Threads, lines: &[u8; 2560], nlines: usize, th: Thread) -> Threads
+    requires { ⌜ list .count < 64 ⌝ }
     ensures { λ r. ⌜ r .count ≤ list .count + 1 ⌝ }
-    ensures { λ r. ⌜ ((n : ℕ) → th .line < n → threadsView (r .count) (r .items) ≡ threadsView (list .count) (list .items) ++ settle (linesView n (now (lines .entry))) (threadView th)) ⌝ }
+    ensures { λ r. ⌜ threadsView (r .count) (r .items) ≡ threadsView (list .count) (list .items) ++ settle (linesView nlines (now (lines .entry))) (threadView th) ⌝ }
 {
     let q = th.line;
-    if is_nil(lines, q) {
+    if tables::is_nil(lines, nlines, q) {
         return list;
     }
-    let count = list.count;
+    let n = list.count;
     let old = list.items;
-    let items = threads::push(old, count, th);
-    Threads {
-        items,
-        count: count + 1,
-    }
+    let items = threads::push(old, n, th);
+    let count = n + 1;
+    Threads { items, count }
 }
 
 // The threads of n roots, in order.
 fn root_threads<'a>(
     lines: &'a [u8; 2560],
+    nlines: usize,
     homes: &'a [u8; 1024],
     roots: &'a [u8; 128],
     n: usize,
 ) -> Threads
-    requires { ⌜ (n ≤ 64) × (length (now lines) ≡ 2560) × (length (now roots) ≡ 128) ⌝ }
+    requires { ⌜ (n ≤ 64) × (length (now roots) ≡ 128) ⌝ }
     requires { ⌜ ((i : ℕ) → i < n → getD (now roots) (2 * i) 0 < 32) ⌝ }
     ensures { λ r. ⌜ r .count ≤ 64 ⌝ }
-    ensures { λ r. ⌜ ((N : Spec.Net) (m : ℕ) → N .homes ≡ now (homes .entry) → N .lines ≡ linesView m (now (lines .entry)) → RootsIn (now (roots .entry)) n m → threadsView (r .count) (r .items) ≡ concat (λ x. settle (N .lines) (rootThread N x)) (rootsView n (now (roots .entry)))) ⌝ }
+    ensures { λ r. ⌜ ((N : Spec.Net) → N .homes ≡ now (homes .entry) → N .lines ≡ linesView nlines (now (lines .entry)) → threadsView (r .count) (r .items) ≡ concat (λ x. settle (N .lines) (rootThread N x)) (rootsView n (now (roots .entry)))) ⌝ }
 {
     let mut list = no_threads();
     let mut i: usize = 0;
     while i < n {
         let at = tables::ROOT * i;
         let th = root_thread(homes, roots[at], roots[at + 1]);
-        list = with_thread(list, lines, th);
+        list = with_thread(list, lines, nlines, th);
         i += 1;
     }
     list
@@ -149,6 +138,13 @@ fn begun(net: Net, estimate: Estimate, list: Threads, number: u8, row: usize) ->
         target: 0,
         right: 0,
     };
+    let run = Run {
+        threads,
+        nthreads,
+        tuples,
+        ntuples,
+        told,
+    };
     State {
         net: ground(net),
         own: nlines,
@@ -158,19 +154,15 @@ fn begun(net: Net, estimate: Estimate, list: Threads, number: u8, row: usize) ->
         arrivals,
         narrivals: 0,
         sound,
-        threads,
-        nthreads,
-        tuples,
-        ntuples,
-        told,
+        run,
     }
 }
 
 // The state that begins from what was read, or the refusal.
 fn begin(w: WorldRead) -> State
-    requires { ⌜ (w .number ≡ 0 → RootsIn (w .net .roots) (w .net .nroots) (w .net .nlines)) ⌝ }
+    requires { ⌜ (w .number ≡ 0 → RootsIn (w .net .roots) (w .net .nroots)) ⌝ }
     ensures { λ st. ⌜ startView st ≡ andThen (worldAnswer w) (λ x. gives (beginOf x)) ⌝ }
-    ensures { λ st. ⌜ (st .nthreads ≤ 64) × (st .narrivals ≡ 0) × (st .own ≡ st .nlines) ⌝ }
+    ensures { λ st. ⌜ Fresh st ⌝ }
 {
     let number = w.number;
     let row = w.row;
@@ -180,8 +172,9 @@ fn begin(w: WorldRead) -> State
         let none = no_threads();
         return begun(net, estimate, none, number, row);
     }
+    let m = w.net.nlines;
     let n = w.net.nroots;
-    let list = root_threads(&w.net.lines, &w.net.homes, &w.net.roots, n);
+    let list = root_threads(&w.net.lines, m, &w.net.homes, &w.net.roots, n);
     begun(net, estimate, list, 0, 0)
 }
 

@@ -34,8 +34,8 @@ stateView st = record {
   estimate = estimateView (st .estimate);
   lines = linesView (st .nlines) (st .lines);
   arrivals = take (st .narrivals) (st .arrivals);
-  threads = threadsView (st .nthreads) (st .threads);
-  tuples = rowsView (st .ntuples) (st .tuples);
+  threads = threadsView (st .run .nthreads) (st .run .threads);
+  tuples = rowsView (st .run .ntuples) (st .run .tuples);
 }
 
 -- what a call that was not refused did
@@ -48,4 +48,4 @@ answerView t = cond (eqb (t .number) 0) (gives (eventView t)) (refused (t .numbe
 
 -- the answer, and the state behind the call
 unfoldable pub resultView : State → Result
-resultView st = record { answer = answerView (st .told); state = stateView st }
+resultView st = record { answer = answerView (st .run .told); state = stateView st }

@@ -61,7 +61,7 @@ rows-total change n m ts row e h = go (eqb change 1) (eqb change 2) refl
     go false true q = splice-long m ts (omega (arith, h (eqb-eq q))) ∙ ap (λ (j : ℕ). j - 1) e
     go false false q = e
 
-module _ (st : State) (k m : ℕ) (v : Move) (s : Sizes) (w : Measured (linesView (st .nlines) (st .lines)) (st .nthreads) (st .ntuples) v s) where
+module _ (st : State) (k m : ℕ) (v : Move) (s : Sizes) (w : Measured (linesView (st .nlines) (st .lines)) (st .run .nthreads) (st .run .ntuples) v s) where
   abbrev ls : List Line
   ls = linesView (st .nlines) (st .lines)
 
@@ -76,27 +76,27 @@ module _ (st : State) (k m : ℕ) (v : Move) (s : Sizes) (w : Measured (linesVie
       ∙ ap (λ (b : Bool). cond b (threadView (v .added) ∷ []) []) (sym (w .moreIs))
 
   -- the lists behind the step
-  pub threads-is : stateAfter (stateView st) k m v .threads ≡ splice k (cond (s .nil) [] (threadView (v .thread) ∷ [])) (threadsView (st .nthreads) (st .threads)) ++ cond (s .more) (threadView (v .added) ∷ []) []
+  pub threads-is : stateAfter (stateView st) k m v .threads ≡ splice k (cond (s .nil) [] (threadView (v .thread) ∷ [])) (threadsView (st .run .nthreads) (st .run .threads)) ++ cond (s .more) (threadView (v .added) ∷ []) []
   unfolding stateAfter after stateView
-  threads-is = ap₂ (λ (xs ys : List Spec.Thread). splice k xs (threadsView (st .nthreads) (st .threads)) ++ ys) settle-is more-is
+  threads-is = ap₂ (λ (xs ys : List Spec.Thread). splice k xs (threadsView (st .run .nthreads) (st .run .threads)) ++ ys) settle-is more-is
 
-  pub after-view : {xs : List Spec.Thread} {ys : List (List ℕ)} → xs ≡ splice k (cond (s .nil) [] (threadView (v .thread) ∷ [])) (threadsView (st .nthreads) (st .threads)) ++ cond (s .more) (threadView (v .added) ∷ []) [] → ys ≡ tuplesAfter (rowsView (st .ntuples) (st .tuples)) m v → record { net = groundView (st .net) (linesView (st .own) (st .lines)); estimate = estimateView (st .estimate); lines = linesView (st .nlines) (st .lines); arrivals = take (st .narrivals) (st .arrivals); threads = xs; tuples = ys } ≡ stateAfter (stateView st) k m v
+  pub after-view : {xs : List Spec.Thread} {ys : List (List ℕ)} → xs ≡ splice k (cond (s .nil) [] (threadView (v .thread) ∷ [])) (threadsView (st .run .nthreads) (st .run .threads)) ++ cond (s .more) (threadView (v .added) ∷ []) [] → ys ≡ tuplesAfter (rowsView (st .run .ntuples) (st .run .tuples)) m v → record { net = groundView (st .net) (linesView (st .own) (st .lines)); estimate = estimateView (st .estimate); lines = linesView (st .nlines) (st .lines); arrivals = take (st .narrivals) (st .arrivals); threads = xs; tuples = ys } ≡ stateAfter (stateView st) k m v
   unfolding stateAfter after stateView
   after-view p q =
       ap₂ (λ (xs : List Spec.Thread) (ys : List (List ℕ)). record { net = groundView (st .net) (linesView (st .own) (st .lines)); estimate = estimateView (st .estimate); lines = linesView (st .nlines) (st .lines); arrivals = take (st .narrivals) (st .arrivals); threads = xs; tuples = ys })
       (p ∙ sym threads-is) q
 
   -- how long they are
-  module _ (here : k < st .nthreads) (few : st .nthreads ≤ length (st .threads)) (taken : v .change ≡ 2 → m < st .ntuples) where
+  module _ (here : k < st .run .nthreads) (few : st .run .nthreads ≤ length (st .run .threads)) (taken : v .change ≡ 2 → m < st .run .ntuples) where
     pub threads-count : length (stateAfter (stateView st) k m v .threads) ≡ s .threads
     threads-count =
         ap length threads-is
-        ∙ length-append (splice k (cond (s .nil) [] (threadView (v .thread) ∷ [])) (threadsView (st .nthreads) (st .threads))) (cond (s .more) (threadView (v .added) ∷ []) [])
+        ∙ length-append (splice k (cond (s .nil) [] (threadView (v .thread) ∷ [])) (threadsView (st .run .nthreads) (st .run .threads))) (cond (s .more) (threadView (v .added) ∷ []) [])
         ∙ ap (λ (j : ℕ). j + length (cond (s .more) (threadView (v .added) ∷ []) []))
-        (splice-any k (cond (s .nil) [] (threadView (v .thread) ∷ [])) (threadsView (st .nthreads) (st .threads)) (omega (arith, threads-long (st .nthreads) (st .threads) few))
-        ∙ ap (λ (j : ℕ). j - 1 + length (cond (s .nil) [] (threadView (v .thread) ∷ []))) (threads-long (st .nthreads) (st .threads) few))
-        ∙ total (s .nil) (s .more) (threadView (v .thread)) (threadView (v .added)) (st .nthreads) (s .left) (s .threads) (omega arith) (w .leftIs) (w .threadsIs)
+        (splice-any k (cond (s .nil) [] (threadView (v .thread) ∷ [])) (threadsView (st .run .nthreads) (st .run .threads)) (omega (arith, threads-long (st .run .nthreads) (st .run .threads) few))
+        ∙ ap (λ (j : ℕ). j - 1 + length (cond (s .nil) [] (threadView (v .thread) ∷ []))) (threads-long (st .run .nthreads) (st .run .threads) few))
+        ∙ total (s .nil) (s .more) (threadView (v .thread)) (threadView (v .added)) (st .run .nthreads) (s .left) (s .threads) (omega arith) (w .leftIs) (w .threadsIs)
 
     pub tuples-count : length (stateAfter (stateView st) k m v .tuples) ≡ s .tuples
     unfolding stateAfter after stateView tuplesAfter
-    tuples-count = rows-total (v .change) (st .ntuples) m (rowsView (st .ntuples) (st .tuples)) (rowAt (v .row) 0) (rows-long (st .ntuples) (st .tuples)) taken ∙ sym (w .tuplesIs)
+    tuples-count = rows-total (v .change) (st .run .ntuples) m (rowsView (st .run .ntuples) (st .run .tuples)) (rowAt (v .row) 0) (rows-long (st .run .ntuples) (st .run .tuples)) taken ∙ sym (w .tuplesIs)

@@ -1,3 +1,4 @@
 pub mod Counts
 pub mod Applied
+pub mod Shift
 pub mod Steps

@@ -10,10 +10,9 @@ use borrow.Author.Tests.{ne-eqb}
 use lib.Dec.{eqb, leb}
 use lib.ListN.{length, getD, set, getElem?}
 use Rattle.sets.specs.Lists.{_&_, either, splice}
-use Rattle.sets.specs.Bits.{mem}
 use Rattle.sets.proofs.Lists.{All-in, All-get, and-l, and-r, leb-le}
 use Rattle.klaim.specs.Process.{lineAt}
-use Rattle.klaim.specs.Reader.{Answer, refused, gives}
+use Rattle.klaim.specs.Reader.{Answer, gives}
 use Rattle.klaim.specs.Engine.{Event, silent, performed, Result, Plan, stop, quiet, act, plan, permits, limit, finish, stepOf, step}
 use Rattle.klaim.specs.Invariant.{ThreadOk, Invariant}
 use Rattle.klaim.specs.State as Spec
@@ -23,33 +22,33 @@ use Rattle.tables.specs.View.{estimateView, linesView, rowsView}
 use Rattle.tables.proofs.Lines.{length-view}
 use Rattle.threads.specs.declared.Thread.{Thread}
 use Rattle.threads.specs.View.{noThread, threadView, threadsView}
-use Rattle.threads.proofs.Laws.{thread-some, thread-none, replace-view, push-view}
+use Rattle.threads.proofs.Laws.{thread-some, thread-none, push-view}
 use Rattle.tuples.proofs.Rows.{rows-long}
 use Rattle.state.specs.declared.Told.{Told}
 use Rattle.state.specs.declared.State.{State}
 use Rattle.state.specs.View.{groundView, stateView, answerView, resultView}
+use Rattle.state.specs.declared.Run.{Run}
 use Rattle.state.specs.Fits.{soundAt, Fits}
+use Rattle.state.specs.Lent.{Parts, goneOn}
+use Rattle.state.proofs.Lent.{joined, of-joined}
 use Rattle.plan.specs.Move.{tuplesAfter, stateAfter, planView, Tables, Plannable}
 use Rattle.step.specs.declared.Decision.{Decision}
-use Rattle.step.specs.Stepped.{Measured, Decided, Stepped}
+use Rattle.step.specs.Stepped.{Measured, Decided, Refusing, Stepped}
 use Rattle.step.proofs.Applied.{threads-count, tuples-count, threads-view, after-view}
 
 -- no thread k
-pub no-thread : (guarded : Bool) (st : State) (k m r : ℕ) → st .nthreads ≤ k → st .nthreads ≤ length (st .threads) → step guarded (stateView st) k m r ≡ Engine.refuse 21 0 (stateView st)
+pub no-thread : (guarded : Bool) (st : State) (k m r : ℕ) → st .run .nthreads ≤ k → st .run .nthreads ≤ length (st .run .threads) → step guarded (stateView st) k m r ≡ Engine.refuse 21 0 (stateView st)
 unfolding step stepOf stateView
-no-thread guarded st k m r h few = rw (thread-none (st .nthreads) (st .threads) k h few)
+no-thread guarded st k m r h few = rw (thread-none (st .run .nthreads) (st .run .threads) k h few)
 
 pub homes-is : (st : State) → stateView st .net .homes ≡ st .net .homes
 unfolding stateView groundView
 homes-is st = refl
 
--- the arrays of a state have their lengths
-pub record Long (st : State) : Type 0 where
-  pub lines : length (st .lines) ≡ 2560
-  pub arrivals : length (st .arrivals) ≡ 256
-  pub threads : length (st .threads) ≡ 64
-  pub sound : length (st .sound) ≡ 256
-  pub tuples : length (st .tuples) ≡ 1536
+-- the arrays of a run have their lengths
+pub record Long (run : Run) : Type 0 where
+  pub threads : length (run .threads) ≡ 64
+  pub tuples : length (run .tuples) ≡ 1536
 
 -- what the invariant gives
 module _ (st : State) (f : Fits st) where
@@ -60,61 +59,43 @@ module _ (st : State) (f : Fits st) where
   unfolding stateView
   lines-few = omega (arith, length-view (st .nlines) (st .lines), i .lines-few)
 
-  pub tuples-few : st .ntuples ≤ 256
+  pub tuples-few : st .run .ntuples ≤ 256
   unfolding stateView
-  tuples-few = omega (arith, rows-long (st .ntuples) (st .tuples), i .tuples-few)
+  tuples-few = omega (arith, rows-long (st .run .ntuples) (st .run .tuples), i .tuples-few)
 
-  module _ (w : Long st) (k : ℕ) (h : k < st .nthreads) where
-    pub thread-here : getElem? (stateView st .threads) k ≡ some (threadView (getD (st .threads) k noThread))
+  module _ (w : Long (st .run)) (k : ℕ) (h : k < st .run .nthreads) where
+    pub thread-here : getElem? (stateView st .threads) k ≡ some (threadView (getD (st .run .threads) k noThread))
     unfolding stateView
-    thread-here = thread-some (st .nthreads) (st .threads) k h (omega (arith, w .threads, f .threads-few))
+    thread-here = thread-some (st .run .nthreads) (st .run .threads) k h (omega (arith, w .threads, f .threads-few))
 
-    thread-ok : ThreadOk (st .net .size) (linesView (st .nlines) (st .lines)) (threadView (getD (st .threads) k noThread))
+    thread-ok : ThreadOk (st .net .size) (linesView (st .nlines) (st .lines)) (threadView (getD (st .run .threads) k noThread))
     unfolding stateView groundView
     thread-ok = All-get k (i .threads-ok) thread-here
 
-    pub thread-placed : getD (st .threads) k noThread .site .0 < 32
+    pub thread-placed : getD (st .run .threads) k noThread .site .0 < 32
     unfolding stateView groundView
     thread-placed = omega (arith, thread-ok .placed, i .sites-few)
 
     -- the tables of a state
-    pub tables : Tables (stateView st) (getD (st .threads) k noThread .site .0) (st .lines) (st .nlines) (st .net .boxes) (st .estimate .binds) (st .arrivals) (st .narrivals) (st .sound) (st .tuples) (st .ntuples)
+    pub tables : Tables (stateView st) (getD (st .run .threads) k noThread .site .0) (st .lines) (st .nlines) (st .net .boxes) (st .estimate .binds) (st .arrivals) (st .narrivals) (st .sound) (st .run .tuples) (st .run .ntuples)
     unfolding stateView groundView estimateView soundAt
-    tables = record { linesIs = refl; boxesIs = refl; bindsIs = refl; arrivalsIs = refl; soundIs = λ i l. f .sound-is i (getD (st .threads) k noThread .site .0) l (thread-ok .placed); tuplesIs = refl }
+    tables = record { linesIs = refl; boxesIs = refl; bindsIs = refl; arrivalsIs = refl; soundIs = λ i l. f .sound-is i (getD (st .run .threads) k noThread .site .0) l (thread-ok .placed); tuplesIs = refl }
 
-    pub plannable : Plannable (st .lines) (st .nlines) (st .arrivals) (st .narrivals) (st .sound) (st .tuples) (st .ntuples) (getD (st .threads) k noThread)
+    pub plannable : Plannable (st .lines) (st .nlines) (st .arrivals) (st .narrivals) (st .sound) (st .run .tuples) (st .run .ntuples) (getD (st .run .threads) k noThread)
     unfolding stateView
     plannable = record {
-      linesLong = w .lines;
+      linesLong = f .lines-long;
       linesFew = lines-few;
       inOrder = i .lines-ordered;
-      arrivalsLong = w .arrivals;
+      arrivalsLong = f .arrivals-long;
       arrivalsFew = omega (arith, lines-few, f .arrivals-few);
       arrivalsPresent = λ r e. omega (arith, All-in (i .arrivals-ok) e .present, length-view (st .nlines) (st .lines));
-      setsLong = w .sound;
+      setsLong = f .sound-long;
       tuplesLong = w .tuples;
       tuplesFew = tuples-few;
       threadPresent = omega (arith, thread-ok .present, length-view (st .nlines) (st .lines));
       threadPlaced = thread-placed;
     }
-
--- a state with other threads
-abbrev pub withThreads : State → List Thread → State
-withThreads st ts = record {
-  net = st .net;
-  own = st .own;
-  estimate = st .estimate;
-  lines = st .lines;
-  nlines = st .nlines;
-  arrivals = st .arrivals;
-  narrivals = st .narrivals;
-  sound = st .sound;
-  threads = ts;
-  nthreads = st .nthreads;
-  tuples = st .tuples;
-  ntuples = st .ntuples;
-  told = st .told;
-}
 
 -- what a plan ends with, by the number that refuses it
 module _ (guarded : Bool) (st : Spec.State) (th : Spec.Thread) (t right : ℕ) (new : Spec.State) where
@@ -153,26 +134,36 @@ pub step-plan : (guarded : Bool) (st : Spec.State) (k m r : ℕ) (th : Spec.Thre
 unfolding step stepOf
 step-plan guarded st k m r th e p = rw (e, p)
 
--- a step that is refused
-pub stepped-no : (guarded : Bool) (st : State) (k m r : ℕ) (next : State) {number : ℕ} → step guarded (stateView st) k m r ≡ Engine.refuse number 0 (stateView st) → stateView next ≡ stateView st → answerView (next .told) ≡ refused number 0 → Fits next → Stepped guarded st k m r next
-unfolding resultView
-stepped-no guarded st k m r next e v a f = record {
-  result = ap₂ (λ (x : Answer Event) (s : Spec.State). record { answer = x; state = s }) a v ∙ sym e;
-  fits = f;
+-- a state that has gone on keeps what is its own of the invariant
+fits-on : (st : State) (run : Run) → Fits st → run .nthreads ≤ 64 → Invariant (stateView (goneOn st run)) → Fits (goneOn st run)
+unfolding stateView soundAt
+fits-on st run f few i = record {
+  lines-long = f .lines-long;
+  arrivals-long = f .arrivals-long;
+  sound-long = f .sound-long;
+  threads-few = few;
+  own-few = f .own-few;
+  arrivals-few = f .arrivals-few;
+  sound-is = f .sound-is;
+  invariant = i;
 }
 
+-- a step that is refused
+pub stepped-no : (guarded : Bool) (st : State) (k m r : ℕ) (next : Run) {number : ℕ} → Fits st → step guarded (stateView st) k m r ≡ Engine.refuse number 0 (stateView st) → Refusing (st .run) number next → Stepped guarded st k m r (goneOn st next)
+unfolding resultView stateView
+stepped-no guarded st k m r next f e x =
+    let run = st .run in
+    subst (λ (z : Run). Stepped guarded st k m r (goneOn st z)) (sym (x .kept)) record {
+      result = ap (λ (a : Answer Event). record { answer = a; state = stateView st }) (x .answer) ∙ sym e;
+      fits = fits-on st (record { threads = run .threads; nthreads = run .nthreads; tuples = run .tuples; ntuples = run .ntuples; told = next .told }) f (f .threads-few) (f .invariant);
+    }
+
 -- a step that is not
-pub stepped-yes : (guarded : Bool) (st : State) (k m r : ℕ) (next : State) {e : Event} {new : Spec.State} → Fits st → step guarded (stateView st) k m r ≡ record { answer = gives e; state = new } → stateView next ≡ new → answerView (next .told) ≡ gives e → next .nthreads ≤ 64 → next .own ≤ next .nlines → next .narrivals ≤ next .nlines → ((i l : ℕ) → i < next .narrivals → l < next .net .size → mem l (getD (next .sound) i 0) ≡ soundAt next i l) → Stepped guarded st k m r next
+pub stepped-yes : (guarded : Bool) (st : State) (k m r : ℕ) (run : Run) {e : Event} {new : Spec.State} → Fits st → step guarded (stateView st) k m r ≡ record { answer = gives e; state = new } → stateView (goneOn st run) ≡ new → answerView (run .told) ≡ gives e → run .nthreads ≤ 64 → Stepped guarded st k m r (goneOn st run)
 unfolding resultView
-stepped-yes guarded st k m r next f p v a few own less sets = record {
+stepped-yes guarded st k m r run f p v a few = record {
   result = ap₂ (λ (x : Answer Event) (s : Spec.State). record { answer = x; state = s }) a v ∙ sym p;
-  fits = record {
-    threads-few = few;
-    own-few = own;
-    arrivals-few = less;
-    sound-is = sets;
-    invariant = subst Invariant (ap (λ (x : Result). x .state) p ∙ sym v) (step-keeps guarded (stateView st) k m r (f .invariant));
-  };
+  fits = fits-on st run f few (subst Invariant (ap (λ (x : Result). x .state) p ∙ sym v) (step-keeps guarded (stateView st) k m r (f .invariant)));
 }
 
 flip : {room b : Bool} → room ≡ b → _≡_ {A = ℕ} (cond (not room) 27 0) (cond b 0 27)
@@ -186,19 +177,27 @@ pub number-is : (guarded q : Bool) (stopped threads tuples : ℕ) {may allowed l
 number-is guarded q stopped threads tuples p l f e =
     e ∙ ap₂ (λ (x : Bool) (y : ℕ). cond (eqb stopped 0) (cond x 26 y) stopped) (l ∙ ap (λ (b : Bool). not (either q (either (not guarded) b))) p) (flip f)
 
--- a step by what the code finds: the plan, the sizes, the number
-module _ (guarded : Bool) (st : State) (k m r : ℕ) (f : Fits st) (w : Long st) (h : k < st .nthreads) (d : Decision) (o : Decided guarded (stateView st) (st .nthreads) (st .ntuples) (getD (st .threads) k noThread) m r d) where
-  abbrev th : Spec.Thread
-  th = threadView (getD (st .threads) k noThread)
+-- the run behind a step, its threads, tuples and answer given
+abbrev pub behind : Decision → List Thread → List ℕ → Told → Run
+behind d ts rows told = record { threads = ts; nthreads = d .sizes .threads; tuples = rows; ntuples = d .sizes .tuples; told = told }
 
-  measured : Measured (linesView (st .nlines) (st .lines)) (st .nthreads) (st .ntuples) (d .plan) (d .sizes)
+-- a step of a state is one of the state under the names of its parts
+pub stepped-joined : (guarded : Bool) (k m r : ℕ) (st : State) {homes boxes binds lines : List ℕ} {nlines : ℕ} {arrivals : List ℕ} {narrivals : ℕ} {sound : List ℕ} {run : Run} (e : Parts st homes boxes binds lines nlines arrivals narrivals sound run) (next : Run) → Stepped guarded (joined st e) k m r (goneOn (joined st e) next) → Stepped guarded st k m r (goneOn st next)
+stepped-joined guarded k m r st e next = of-joined st e (λ (x : State). Stepped guarded x k m r (goneOn x next))
+
+-- a step by what the code finds: the plan, the sizes, the number
+module _ (guarded : Bool) (st : State) (k m r : ℕ) (f : Fits st) (w : Long (st .run)) (h : k < st .run .nthreads) (d : Decision) (o : Decided guarded (stateView st) (st .run .nthreads) (st .run .ntuples) (getD (st .run .threads) k noThread) m r d) where
+  abbrev th : Spec.Thread
+  th = threadView (getD (st .run .threads) k noThread)
+
+  measured : Measured (linesView (st .nlines) (st .lines)) (st .run .nthreads) (st .run .ntuples) (d .plan) (d .sizes)
   unfolding stateView
   measured = o .measured
 
   ends : step guarded (stateView st) k m r ≡ Ends guarded (stateView st) th (d .plan .target) (d .plan .right) (stateAfter (stateView st) k m (d .plan)) (d .plan .silent) (d .number)
   unfolding planView
   ends =
-      let few : st .nthreads ≤ length (st .threads) = omega (arith, w .threads, f .threads-few) in
+      let few : st .run .nthreads ≤ length (st .run .threads) = omega (arith, w .threads, f .threads-few) in
       step-plan guarded (stateView st) k m r th (thread-here st f w k h) (o .planIs k)
       ∙ finish-view guarded (stateView st) th (d .plan .target) (d .plan .right) (stateAfter (stateView st) k m (d .plan)) (d .plan .stop) (d .sizes .threads) (d .sizes .tuples) (d .plan .silent)
       (threads-count st k m (d .plan) (d .sizes) measured h few (o .taken))
@@ -220,44 +219,20 @@ module _ (guarded : Bool) (st : State) (k m r : ℕ) (f : Fits st) (w : Long st)
   pub left-room : d .number ≡ 0 → d .sizes .more ≡ true → d .sizes .left < 64
   left-room z y = omega (arith, room z .0, measured .threadsIs ∙ ap (λ (b : Bool). cond b (d .sizes .left + 1) (d .sizes .left)) y)
 
-  -- the state behind a step, its threads, tuples and answer given
-  abbrev pub behind : List Thread → List ℕ → Told → State
-  behind ts rows told = record {
-    net = st .net;
-    own = st .own;
-    estimate = st .estimate;
-    lines = st .lines;
-    nlines = st .nlines;
-    arrivals = st .arrivals;
-    narrivals = st .narrivals;
-    sound = st .sound;
-    threads = ts;
-    nthreads = d .sizes .threads;
-    tuples = rows;
-    ntuples = d .sizes .tuples;
-    told = told;
-  }
-
   -- the threads, with thread k settled
   abbrev pub Settled : List Thread → Type 0
-  Settled ts = threadsView (cond (d .sizes .nil) (st .nthreads - 1) (st .nthreads)) ts ≡ splice k (cond (d .sizes .nil) [] (threadView (d .plan .thread) ∷ [])) (threadsView (st .nthreads) (st .threads))
+  Settled ts = threadsView (cond (d .sizes .nil) (st .run .nthreads - 1) (st .run .nthreads)) ts ≡ splice k (cond (d .sizes .nil) [] (threadView (d .plan .thread) ∷ [])) (threadsView (st .run .nthreads) (st .run .threads))
 
-  pub settled-gone : (ts : List Thread) → d .sizes .nil ≡ true → threadsView (st .nthreads - 1) ts ≡ splice k [] (threadsView (st .nthreads) (st .threads)) → Settled ts
-  settled-gone ts e q = rw e q
+  module _ (z : d .number ≡ 0) (rows : List ℕ) (told : Told) (a : answerView told ≡ gives (cond (d .plan .silent) silent (performed (th .site) (d .plan .target) (d .plan .right)))) (q : rowsView (d .sizes .tuples) rows ≡ tuplesAfter (rowsView (st .run .ntuples) (st .run .tuples)) m (d .plan)) where
+    performs : (ts : List Thread) → threadsView (d .sizes .threads) ts ≡ splice k (cond (d .sizes .nil) [] (threadView (d .plan .thread) ∷ [])) (threadsView (st .run .nthreads) (st .run .threads)) ++ cond (d .sizes .more) (threadView (d .plan .added) ∷ []) [] → Stepped guarded st k m r (goneOn st (behind d ts rows told))
+    unfolding stateView
+    performs ts e = stepped-yes guarded st k m r (behind d ts rows told) f (step-yes z) (after-view st k m (d .plan) (d .sizes) measured e q) a (room z .0)
 
-  pub settled-stays : d .sizes .nil ≡ false → Settled (set (st .threads) k (d .plan .thread))
-  settled-stays e = rw e (replace-view (st .threads) (st .nthreads) (d .plan .thread) k h (omega (arith, w .threads, f .threads-few)))
-
-  module _ (z : d .number ≡ 0) (rows : List ℕ) (told : Told) (a : answerView told ≡ gives (cond (d .plan .silent) silent (performed (th .site) (d .plan .target) (d .plan .right)))) (q : rowsView (d .sizes .tuples) rows ≡ tuplesAfter (rowsView (st .ntuples) (st .tuples)) m (d .plan)) where
-    performs : (ts : List Thread) → threadsView (d .sizes .threads) ts ≡ splice k (cond (d .sizes .nil) [] (threadView (d .plan .thread) ∷ [])) (threadsView (st .nthreads) (st .threads)) ++ cond (d .sizes .more) (threadView (d .plan .added) ∷ []) [] → Stepped guarded st k m r (behind ts rows told)
-    unfolding stateView soundAt
-    performs ts e = stepped-yes guarded st k m r (behind ts rows told) f (step-yes z) (after-view st k m (d .plan) (d .sizes) measured e q) a (room z .0) (f .own-few) (f .arrivals-few) (f .sound-is)
-
-    pub performs-alone : (ts : List Thread) → Settled ts → d .sizes .more ≡ false → Stepped guarded st k m r (behind ts rows told)
+    pub performs-alone : (ts : List Thread) → Settled ts → d .sizes .more ≡ false → Stepped guarded st k m r (goneOn st (behind d ts rows told))
     performs-alone ts e n =
-        performs ts (threads-view (d .sizes .nil) (d .sizes .more) (st .nthreads) k (st .threads) ts ts _ _ (measured .leftIs) (measured .threadsIs) e (rw n (sym (append-nil (threadsView (d .sizes .left) ts)))))
+        performs ts (threads-view (d .sizes .nil) (d .sizes .more) (st .run .nthreads) k (st .run .threads) ts ts _ _ (measured .leftIs) (measured .threadsIs) e (rw n (sym (append-nil (threadsView (d .sizes .left) ts)))))
 
-    pub performs-more : (ts : List Thread) → length ts ≡ 64 → Settled ts → d .sizes .more ≡ true → Stepped guarded st k m r (behind (set ts (d .sizes .left) (d .plan .added)) rows told)
+    pub performs-more : (ts : List Thread) → length ts ≡ 64 → Settled ts → d .sizes .more ≡ true → Stepped guarded st k m r (goneOn st (behind d (set ts (d .sizes .left) (d .plan .added)) rows told))
     performs-more ts long e y =
         let few : d .sizes .left < length ts = omega (arith, long, left-room z y) in
-        performs _ (threads-view (d .sizes .nil) (d .sizes .more) (st .nthreads) k (st .threads) ts (set ts (d .sizes .left) (d .plan .added)) _ _ (measured .leftIs) (measured .threadsIs) e (rw y (push-view ts (d .sizes .left) (d .plan .added) few)))
+        performs _ (threads-view (d .sizes .nil) (d .sizes .more) (st .run .nthreads) k (st .run .threads) ts (set ts (d .sizes .left) (d .plan .added)) _ _ (measured .leftIs) (measured .threadsIs) e (rw y (push-view ts (d .sizes .left) (d .plan .added) few)))

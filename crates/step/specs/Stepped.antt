@@ -7,11 +7,13 @@ use Prim.Native.Nat.{ℕ, _+_, _-_, _<_}
 use lib.Dec.{eqb, leb}
 use Rattle.sets.specs.Lists.{_&_, either}
 use Rattle.klaim.specs.Process.{Line, lineAt}
+use Rattle.klaim.specs.Reader.{refused}
 use Rattle.klaim.specs.State.{isNil}
 use Rattle.klaim.specs.State as Spec
 use Rattle.klaim.specs.Engine as Engine
 use Rattle.state.specs.declared.State.{State}
-use Rattle.state.specs.View.{stateView, resultView}
+use Rattle.state.specs.declared.Run.{Run}
+use Rattle.state.specs.View.{stateView, answerView, resultView}
 use Rattle.state.specs.Fits.{Fits}
 use Rattle.threads.specs.declared.Thread.{Thread}
 use Rattle.threads.specs.View.{threadView}
@@ -35,6 +37,11 @@ pub record Decided (guarded : Bool) (st : Spec.State) (n t : ℕ) (th : Thread) 
   pub taken : d .plan .change ≡ 2 → m < t
   pub measured : Measured (st .lines) n t (d .plan) (d .sizes)
   pub numberIs : d .number ≡ cond (eqb (d .plan .stop) 0) (cond (not (either (d .plan .silent) (either (not guarded) (Engine.permits (st .net) (threadView th) (d .plan .target) (d .plan .right))))) 26 (cond (leb (d .sizes .threads) 64 & leb (d .sizes .tuples) 256) 0 27)) (d .plan .stop)
+
+-- the run has a refusal for its answer, and is else as it was
+pub record Refusing (run : Run) (number : ℕ) (next : Run) : Type 0 where
+  pub kept : next ≡ record { threads = run .threads; nthreads = run .nthreads; tuples = run .tuples; ntuples = run .ntuples; told = next .told }
+  pub answer : answerView (next .told) ≡ refused number 0
 
 -- a step was made: the answer and the state are those of document 01, and the invariant is kept
 pub record Stepped (guarded : Bool) (st : State) (k m r : ℕ) (next : State) : Type 0 where

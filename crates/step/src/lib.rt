@@ -13,24 +13,14 @@ ghost use Rattle.klaim.specs.State as Spec;
 ghost use Rattle.klaim.specs.Engine.{permits as permitsOf};
 ghost use Rattle.tables.specs.View.{linesView, rowsView, rowAt};
 ghost use Rattle.threads.specs.View.{threadView};
+ghost use Rattle.state.specs.declared.State.{State};
 ghost use Rattle.state.specs.Fits.{Fits};
+ghost use Rattle.state.specs.Lent.{Parts, Handed, goneOn};
 ghost use Rattle.plan.specs.Move.{Tables, Plannable};
-ghost use Rattle.step.specs.Stepped.{Measured, Decided, Stepped};
+ghost use Rattle.step.specs.Stepped.{Measured, Decided, Refusing, Stepped};
 use plan::Move;
-use state::State;
+use state::Run;
 use threads::Thread;
-
-// Whether line q of the n lines is `nil`, or is none of them.
-fn on_nil(lines: &[u8; 2560], n: usize, q: u8) -> bool
-    requires { ⌜ (n ≤ 256) × (length (now lines) ≡ 2560) ⌝ }
-    ensures { λ r. ⌜ r ≡ isNil (lineAt (linesView n (now (lines .entry))) q) ⌝ }
-{
-    let at = q as usize;
-    if n <= at {
-        return true;
-    }
-    lines[tables::LINE * at] == 0
-}
 
 // Whether a thread more is added, and does not stand on `nil`.
 fn joins(adds: bool, nil: bool) -> bool
@@ -51,6 +41,16 @@ fn left_of(n: usize, nil: bool) -> usize
         return n - 1;
     }
     n
+}
+
+// From which place on those behind move up: that of the thread, where it came to `nil`.
+fn gap(nil: bool, k: usize, last: usize) -> usize
+    ensures { λ r. ⌜ r ≡ cond nil k last ⌝ }
+{
+    if nil {
+        return k;
+    }
+    last
 }
 
 // How many there are with one more, or not.
@@ -90,13 +90,13 @@ pub struct Sizes {
 
 // The sizes of the lists behind a move.
 fn measure(lines: &[u8; 2560], nlines: usize, nthreads: usize, ntuples: usize, v: Move) -> Sizes
-    requires { ⌜ (nlines ≤ 256) × (length (now lines) ≡ 2560) × (0 < nthreads) × (nthreads ≤ 64) × (ntuples ≤ 256) × (v .change ≡ 2 → 0 < ntuples) ⌝ }
+    requires { ⌜ (0 < nthreads) × (nthreads ≤ 64) × (ntuples ≤ 256) × (v .change ≡ 2 → 0 < ntuples) ⌝ }
     ensures { λ s. ⌜ Measured (linesView nlines (now (lines .entry))) nthreads ntuples v s ⌝ }
 {
     let thread = v.thread;
     let added = v.added;
-    let nil = on_nil(lines, nlines, thread.line);
-    let more = joins(v.adds, on_nil(lines, nlines, added.line));
+    let nil = tables::is_nil(lines, nlines, thread.line);
+    let more = joins(v.adds, tables::is_nil(lines, nlines, added.line));
     let left = left_of(nthreads, nil);
     let threads = grown(left, more);
     let tuples = tuples_after(ntuples, v.change);
@@ -227,31 +227,59 @@ fn decide<'a>(
     }
 }
 
-// Step(k, m, r), guarded or bare; the state behind it says what it answers. Guarded, it needs the right in the thread's policy
-// and in the home policy of its site.
-pub fn step(state: State, guarded: bool, k: usize, m: usize, r: usize) -> State
-    requires { ⌜ Fits state ⌝ }
-    ensures { λ next. ⌜ Stepped guarded state k m r next ⌝ }
+// The run with a refusal for its answer.
+fn refusing(run: Run, number: u8) -> Run
+    requires { ⌜ 0 < number ⌝ }
+    ensures { λ next. ⌜ Refusing run number next ⌝ }
 {
-    let mut next = state;
-    let n = state.nthreads;
-    if n <= k {
-        next.told = state::refused(21, 0);
-        return next;
+    let threads = run.threads;
+    let tuples = run.tuples;
+    let told = state::refused(number, 0);
+    Run {
+        threads,
+        nthreads: run.nthreads,
+        tuples,
+        ntuples: run.ntuples,
+        told,
     }
+}
+
+// Step(k, m, r), guarded or bare, of a state: the tables that no step changes are lent, what a step changes comes back and says what
+// it answers. Guarded, it needs the right in the thread's policy and in the home policy of its site.
+pub fn step<'a>(
+    homes: &'a [u8; 1024],
+    boxes: &'a [u8; 1056],
+    binds: &'a [u32; 32],
+    lines: &'a [u8; 2560],
+    nlines: usize,
+    arrivals: &'a [u8; 256],
+    narrivals: usize,
+    sound: &'a [u32; 256],
+    run: Run,
+    guarded: bool,
+    k: usize,
+    m: usize,
+    r: usize,
+) -> Run
+    requires { ⌜ Handed (now homes) (now boxes) (now binds) (now lines) nlines (now arrivals) narrivals (now sound) run ⌝ }
+    ensures { λ next. ⌜ ((st : State) → Fits st → Parts st (now (homes .entry)) (now (boxes .entry)) (now (binds .entry)) (now (lines .entry)) nlines (now (arrivals .entry)) narrivals (now (sound .entry)) run → Stepped guarded st k m r (goneOn st next)) ⌝ }
+{
+    let n = run.nthreads;
+    if n <= k {
+        return refusing(run, 21);
+    }
+    let mut next = run;
     let th = next.threads[k];
-    let nlines = next.nlines;
-    let narrivals = next.narrivals;
     let ntuples = next.ntuples;
     let d = decide(
-        &next.net.homes,
-        &next.net.boxes,
-        &next.estimate.binds,
-        &next.lines,
+        homes,
+        boxes,
+        binds,
+        lines,
         nlines,
-        &next.arrivals,
+        arrivals,
         narrivals,
-        &next.sound,
+        sound,
         &next.tuples,
         ntuples,
         n,
@@ -262,8 +290,7 @@ pub fn step(state: State, guarded: bool, k: usize, m: usize, r: usize) -> State
     );
     let number = d.number;
     if number != 0 {
-        next.told = state::refused(number, 0);
-        return next;
+        return refusing(next, number);
     }
     let v = d.plan;
     let s = d.sizes;
@@ -273,12 +300,14 @@ pub fn step(state: State, guarded: bool, k: usize, m: usize, r: usize) -> State
     let here = th.site;
     next.told = state::stepped(v.silent, here.0, v.target, v.right);
     next.nthreads = s.threads;
-    if s.nil {
-        let items = next.threads;
-        next.threads = threads::remove(items, n, k);
-    } else {
-        let moved = v.thread;
-        next.threads[k] = moved;
+    let moved = v.thread;
+    next.threads[k] = moved;
+    let last = n - 1;
+    let mut i = gap(s.nil, k, last);
+    while i < last {
+        let up = next.threads[i + 1];
+        next.threads[i] = up;
+        i += 1;
     }
     if s.more {
         let left = s.left;

@@ -83,21 +83,6 @@ pub fn push(items: [Thread; 64], n: usize, th: Thread) -> [Thread; 64]
     r
 }
 
-// The list without the thread at place k: those behind move up.
-pub fn remove(items: [Thread; 64], n: usize, k: usize) -> [Thread; 64]
-    requires { ⌜ (k < n) × (n ≤ 64) ⌝ }
-    ensures { λ r. ⌜ threadsView (n - 1) r ≡ splice k [] (threadsView n items) ⌝ }
-{
-    let last = n - 1;
-    let mut r = items;
-    let mut i = k;
-    while i < last {
-        r[i] = r[i + 1];
-        i += 1;
-    }
-    r
-}
-
 // The home policy of site s.
 pub fn home_policy(homes: &[u8; 1024], s: u8) -> [u8; 32]
     requires { ⌜ s < 32 ⌝ }

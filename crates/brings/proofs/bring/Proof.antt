@@ -1,5 +1,5 @@
 use mathlib.Core.Path.{_≡_, refl}
-use Prim.Native.Nat.{ℕ}
+use Prim.Native.Nat.{_+_, _<_, _≤_}
 use native.Mathlib.Omega.{arith}
 use Rattle.state.specs.View.{stateView}
 use Rattle.state.specs.Fits.{soundAt}
@@ -9,18 +9,20 @@ use lib.ListN.{length}
 use Rattle.brings.proofs.bring.Statement.{statement}
 use Rattle.brings.proofs.bring.Tie as tie
 
--- the arrays have their lengths
-lines-long : (c : tie.Start) → length (c .args .state .lines) ≡ 2560
-lines-long c = length-unmapped ℕ (c .args .state .lines) 2560 (c .good .0 .1 .1 .1 .1 .1 .0 .1 .0 .1)
-
-arrivals-long : (c : tie.Start) → length (c .args .state .arrivals) ≡ 256
-arrivals-long c = length-unmapped ℕ (c .args .state .arrivals) 256 (c .good .0 .1 .1 .1 .1 .1 .1 .1 .0 .1 .0 .1)
-
-sound-long : (c : tie.Start) → length (c .args .state .sound) ≡ 256
-sound-long c = length-unmapped ℕ (c .args .state .sound) 256 (c .good .0 .1 .1 .1 .1 .1 .1 .1 .1 .1 .0 .1 .0 .1)
-
+-- the standing tuples have their length
 stand-long : (c : tie.Start) → length (c .args .state .estimate .stand) ≡ 1536
-stand-long c = length-unmapped ℕ (c .args .state .estimate .stand) 1536 (c .good .0 .1 .1 .1 .1 .0 .1 .1 .1 .0 .1 .0 .1)
+stand-long c = search length-unmapped
+
+-- an arrival that was read has a line, and there is room for its lines
+some : (c : tie.Else1) → 0 < c .before .read-arrival .result .count
+some c = some-line _ (c .before .before .before .before .pre) _ (c .before .read-arrival .result) (c .before .read-arrival .ensures) (c .if1 .left)
+
+room : (c : tie.Else1) → c .before .before .before .before .args .state .nlines + c .before .read-arrival .result .count ≤ 256
+room c = few _ (c .before .before .before .before .pre) _ (c .before .read-arrival .result) (c .before .read-arrival .ensures) (c .if1 .left)
+
+-- there is room for its root
+place : (c : tie.Else1) → c .before .before .before .before .args .state .narrivals < 256
+place c = omega (arith, room c, some c, c .before .before .before .before .pre .arrivals-few)
 
 read-arrival-requires : tie.Need-read-arrival-requires
 read-arrival-requires c κs = search needs
@@ -31,63 +33,52 @@ refused-requires c κs = search needs
 returns : tie.Need-returns
 unfolding stateView soundAt
 returns c =
-    let f = c .before .before .before .before .pre in
-    refused-bring _ f _ (c .before .before .read-arrival .result) (c .before .before .read-arrival .ensures) (c .before .if1 .taken) _ refl (c .refused .ensures) (record { threads-few = f .threads-few; own-few = f .own-few; arrivals-few = f .arrivals-few; sound-is = f .sound-is; invariant = f .invariant })
+    let f = c .before .before .before .before .before .pre in
+    let r = c .before .before .read-arrival in
+    refused-bring _ f _ (r .result) (r .ensures) (c .before .if1 .taken) _ refl (c .refused .ensures) (record { lines-long = f .lines-long; arrivals-long = f .arrivals-long; sound-long = f .sound-long; threads-few = f .threads-few; own-few = f .own-few; arrivals-few = f .arrivals-few; sound-is = f .sound-is; invariant = f .invariant })
 
 append-moved-requires : tie.Need-append-moved-requires
 append-moved-requires c κs =
-    let o = arrival-ordered _ (c .before .before .before .before .before .before .pre) _ (c .before .before .before .before .read-arrival .result) (c .before .before .before .before .read-arrival .ensures) (c .before .before .before .if1 .left) in
-    let h = few _ (c .before .before .before .before .before .before .pre) _ (c .before .before .before .before .read-arrival .result) (c .before .before .before .before .read-arrival .ensures) (c .before .before .before .if1 .left) in
-    (omega (arith, h), (lines-long (c .before .before .before .before .before .before), (search needs, o)))
+    let x = c .before .before .before in
+    let f = x .before .before .before .before .pre in
+    let r = x .before .read-arrival in
+    (omega (arith, room x), (f .lines-long, (search needs, arrival-ordered _ f _ (r .result) (r .ensures) (x .if1 .left))))
 
 add-count : tie.Need-add-count
-add-count c =
-    let h = few _ (c .before .before .before .before .before .before .before .pre) _ (c .before .before .before .before .before .read-arrival .result) (c .before .before .before .before .before .read-arrival .ensures) (c .before .before .before .before .if1 .left) in
-    omega (arith, h)
+add-count c = omega (arith, room (c .before .before .before .before))
 
 cast-root : tie.Need-cast-root
-cast-root c =
-    let h = few _ (c .before .before .before .before .before .before .before .pre) _ (c .before .before .before .before .before .read-arrival .result) (c .before .before .before .before .before .read-arrival .ensures) (c .before .before .before .before .if1 .left) in
-    let p = some-line _ (c .before .before .before .before .before .before .before .pre) _ (c .before .before .before .before .before .read-arrival .result) (c .before .before .before .before .before .read-arrival .ensures) (c .before .before .before .before .if1 .left) in
-    omega (arith, h, p)
+cast-root c = omega (arith, room (c .before .before .before .before), some (c .before .before .before .before))
 
 sound-sites-requires : tie.Need-sound-sites-requires
 sound-sites-requires c κs =
-    let s = c .before .before .before .before .before .before .before .before .before .before .before .before .before in
+    let x = c .before .before .before .before .before .before .before .before .before .before in
+    let s = x .before .before .before .before in
+    let r = x .before .read-arrival in
     let a = c .before .before .before .before .before .before .append-moved .ensures in
-    (root-form _ (c .before .before .before .before .before .before .before .before .before .before .before .before .before .pre) _ (c .before .before .before .before .before .before .before .before .before .before .before .read-arrival .result) (c .before .before .before .before .before .before .before .before .before .before .before .read-arrival .ensures) (c .before .before .before .before .before .before .before .before .before .before .if1 .left) _ (a .1), few _ (c .before .before .before .before .before .before .before .before .before .before .before .before .before .pre) _ (c .before .before .before .before .before .before .before .before .before .before .before .read-arrival .result) (c .before .before .before .before .before .before .before .before .before .before .before .read-arrival .ensures) (c .before .before .before .before .before .before .before .before .before .before .if1 .left), a .0, sized _ (s .pre) (stand-long s), size-few _ (s .pre))
+    (root-form _ (s .pre) _ (r .result) (r .ensures) (x .if1 .left) _ (a .1), room x, a .0, sized _ (s .pre) (stand-long s), size-few _ (s .pre))
 
 element-write-next : tie.Need-element-write-next
-element-write-next c =
-    let h = few _ (c .before .before .before .before .before .before .before .before .before .before .before .before .before .before .pre) _ (c .before .before .before .before .before .before .before .before .before .before .before .before .read-arrival .result) (c .before .before .before .before .before .before .before .before .before .before .before .before .read-arrival .ensures) (c .before .before .before .before .before .before .before .before .before .before .before .if1 .left) in
-    let p = some-line _ (c .before .before .before .before .before .before .before .before .before .before .before .before .before .before .pre) _ (c .before .before .before .before .before .before .before .before .before .before .before .before .read-arrival .result) (c .before .before .before .before .before .before .before .before .before .before .before .before .read-arrival .ensures) (c .before .before .before .before .before .before .before .before .before .before .before .if1 .left) in
-    omega (arith, h, p, c .before .before .before .before .before .before .before .before .before .before .before .before .before .before .pre .arrivals-few)
+element-write-next c = omega (arith, place (c .before .before .before .before .before .before .before .before .before .before .before))
 
 mul-next : tie.Need-mul-next
-mul-next c =
-    let h = few _ (c .before .before .before .before .before .before .before .before .before .before .before .before .before .before .pre) _ (c .before .before .before .before .before .before .before .before .before .before .before .before .read-arrival .result) (c .before .before .before .before .before .before .before .before .before .before .before .before .read-arrival .ensures) (c .before .before .before .before .before .before .before .before .before .before .before .if1 .left) in
-    let p = some-line _ (c .before .before .before .before .before .before .before .before .before .before .before .before .before .before .pre) _ (c .before .before .before .before .before .before .before .before .before .before .before .before .read-arrival .result) (c .before .before .before .before .before .before .before .before .before .before .before .before .read-arrival .ensures) (c .before .before .before .before .before .before .before .before .before .before .before .if1 .left) in
-    omega (arith, h, p, c .before .before .before .before .before .before .before .before .before .before .before .before .before .before .pre .arrivals-few)
+mul-next c = omega (arith, place (c .before .before .before .before .before .before .before .before .before .before .before))
 
 element-write-next-2 : tie.Need-element-write-next-2
-element-write-next-2 c =
-    let h = few _ (c .before .before .before .before .before .before .before .before .before .before .before .before .before .before .pre) _ (c .before .before .before .before .before .before .before .before .before .before .before .before .read-arrival .result) (c .before .before .before .before .before .before .before .before .before .before .before .before .read-arrival .ensures) (c .before .before .before .before .before .before .before .before .before .before .before .if1 .left) in
-    let p = some-line _ (c .before .before .before .before .before .before .before .before .before .before .before .before .before .before .pre) _ (c .before .before .before .before .before .before .before .before .before .before .before .before .read-arrival .result) (c .before .before .before .before .before .before .before .before .before .before .before .before .read-arrival .ensures) (c .before .before .before .before .before .before .before .before .before .before .before .if1 .left) in
-    omega (arith, h, p, c .before .before .before .before .before .before .before .before .before .before .before .before .before .before .pre .arrivals-few)
+element-write-next-2 c = omega (arith, place (c .before .before .before .before .before .before .before .before .before .before .before))
 
 add-next : tie.Need-add-next
-add-next c =
-    let h = few _ (c .before .before .before .before .before .before .before .before .before .before .before .before .before .before .pre) _ (c .before .before .before .before .before .before .before .before .before .before .before .before .read-arrival .result) (c .before .before .before .before .before .before .before .before .before .before .before .before .read-arrival .ensures) (c .before .before .before .before .before .before .before .before .before .before .before .if1 .left) in
-    let p = some-line _ (c .before .before .before .before .before .before .before .before .before .before .before .before .before .before .pre) _ (c .before .before .before .before .before .before .before .before .before .before .before .before .read-arrival .result) (c .before .before .before .before .before .before .before .before .before .before .before .before .read-arrival .ensures) (c .before .before .before .before .before .before .before .before .before .before .before .if1 .left) in
-    omega (arith, h, p, c .before .before .before .before .before .before .before .before .before .before .before .before .before .before .pre .arrivals-few)
+add-next c = omega (arith, place (c .before .before .before .before .before .before .before .before .before .before .before))
 
 brought-requires : tie.Need-brought-requires
 brought-requires c κs = search needs
 
 returns-2 : tie.Need-returns-2
 returns-2 c =
-    let s = c .before .before .before .before .before .before .before .before .before .before .before .before .before .before .before in
-    joined-brought _ (c .before .before .before .before .before .before .before .before .before .before .before .before .before .before .before .pre) _ (c .before .before .before .before .before .before .before .before .before .before .before .before .before .read-arrival .result) (c .before .before .before .before .before .before .before .before .before .before .before .before .before .read-arrival .ensures) (c .before .before .before .before .before .before .before .before .before .before .before .before .if1 .left) _ (c .before .before .before .before .before .before .before .before .append-moved .ensures .1) (arrivals-long s) (sound-long s) (c .before .sound-sites .result) (c .brought .result) (c .before .sound-sites .ensures) (c .brought .ensures)
+    let x = c .before .before .before .before .before .before .before .before .before .before .before .before in
+    let r = x .before .read-arrival in
+    let a = c .before .before .before .before .before .before .before .before .append-moved .ensures in
+    joined-brought _ (x .before .before .before .before .pre) _ (r .result) (r .ensures) (x .if1 .left) _ (a .1) (c .before .sound-sites .result) (c .brought .result) (c .before .sound-sites .ensures) (a .0) (c .brought .ensures)
 
 pub bring-spec : {M : Type 1} → statement M
 bring-spec =

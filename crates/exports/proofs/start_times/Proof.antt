@@ -8,7 +8,7 @@ use Rattle.exports.proofs.start_times.Statement.{statement}
 use Rattle.exports.proofs.start_times.Tie as tie
 
 abbrev Inv-loop : tie.InvT-loop
-Inv-loop net estimate count last₀ i₀ last i = (last .told .number ≡ 0) → Fits last
+Inv-loop net estimate count last₀ i₀ last i = (last .run .told .number ≡ 0) → Fits last
 
 abbrev μ-loop : tie.MeasureT-loop
 μ-loop net estimate count last₀ i₀ last i = count - i

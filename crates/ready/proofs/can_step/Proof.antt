@@ -61,7 +61,7 @@ some-guest-requires c κs =
     let s = c .before .before .before .before in
     let p = s .pre .0 in
     let nx = next (thread-form p) (c .before .before .before .action-at .ensures) (c .before .next4 .given .1) in
-    (admits p, p .threadPlaced, nx .1, nx .0 .form .present, s .pre .1)
+    (admits p, p .threadPlaced, nx .1, s .pre .1)
 
 returns : tie.Need-returns
 unfolding runs actionLine
@@ -76,8 +76,7 @@ returns-2 c =
     let p = s .pre .0 in
     let d = c .before .before .before .before .action-at .ensures in
     let e = c .before .before .next .given .1 in
-    let nx = next (thread-form p) d e in
-    λ st w k. runs-at p w d e (room-of w k _ _ (c .has-room .ensures (s .args .n) (nx .0 .form .present) (nx .1 .form .present)))
+    λ st w k. runs-at p w d e (room-of w k _ _ (c .has-room .ensures))
 
 returns-3 : tie.Need-returns-3
 unfolding runs actionLine
@@ -86,8 +85,7 @@ returns-3 c =
     let p = s .pre .0 in
     let d = c .before .before .before .before .action-at .ensures in
     let e = c .before .before .next2 .given .1 in
-    let nx = next (thread-form p) d e in
-    λ st w k. runs-at p w d e (room-of w k _ _ (c .has-room2 .ensures (s .args .n) (p .threadPresent) (nx .0 .form .present)))
+    λ st w k. runs-at p w d e (room-of w k _ _ (c .has-room2 .ensures))
 
 returns-4 : tie.Need-returns-4
 unfolding runs actionLine
@@ -120,8 +118,7 @@ returns-7 c =
     let p = s .pre .0 in
     let d = c .before .before .before .before .action-at .ensures in
     let e = c .before .before .next3 .given .1 in
-    let nx = next (thread-form p) d e in
-    λ st w k. runs-at p w d e (room-of w k _ _ (c .has-room3 .ensures (s .args .n) (nx .0 .form .present) (nx .2 .form .present)))
+    λ st w k. runs-at p w d e (room-of w k _ _ (c .has-room3 .ensures))
 
 returns-8 : tie.Need-returns-8
 unfolding runs actionLine

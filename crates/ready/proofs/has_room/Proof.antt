@@ -5,36 +5,27 @@ use Rattle.ready.specs.Runs.{room}
 use borrow.Author.Needs.{needs}
 use Rattle.ready.proofs.has_room.Statement.{statement}
 use Rattle.ready.proofs.has_room.Tie as tie
-use Rattle.ready.proofs.has_room.Reads as reads
-use Rattle.ready.proofs.has_room.Lts as lts
-use Rattle.ready.proofs.stands.Reads as stands-reads
 
--- src/lib.rt:56:9
 stands-requires : tie.Need-stands-requires
 stands-requires c κs = search needs
 
--- src/lib.rt:57:9
 stands-requires-2 : tie.Need-stands-requires-2
 stands-requires-2 c κs = search needs
 
--- src/lib.rt:58:5
 add-result : tie.Need-add-result
 add-result c = search needs
 
--- src/lib.rt:58:5
 add-result-2 : tie.Need-add-result-2
 add-result-2 c = search needs
 
--- src/lib.rt:58:28
 add-result-3 : tie.Need-add-result-3
 add-result-3 c = search needs
 
--- src/lib.rt:52:1
 returns : tie.Need-returns
 unfolding room
 returns c =
     let count = c .before .before .args .count in
-    λ n p q. ap₂ (λ (x y : ℕ). leb (count + x + y) 65) (c .before .stands .ensures .1 n p) (c .stands2 .ensures .1 n q)
+    ap₂ (λ (x y : ℕ). leb (count + x + y) 65) (c .before .stands .ensures .1) (c .stands2 .ensures .1)
 
 pub has-room-spec : {M : Type 1} → statement M
 has-room-spec =

@@ -1,5 +1,4 @@
 use mathlib.Core.Path.{_≡_, _∙_}
-use Prim.Native.Nat.{ℕ}
 use lib.ListN.{length}
 use Rattle.threads.proofs.Splice.{length-mapped}
 use Rattle.ready.proofs.Laws.{fits-testable, fits-ready}
@@ -8,25 +7,16 @@ use Rattle.ready.proofs.ready.Statement.{statement}
 use Rattle.ready.proofs.ready.Tie as tie
 
 -- the arrays have their lengths
-lines-long : (c : tie.Start) → length (c .args .state .lines) ≡ 2560
-lines-long c = length-unmapped ℕ (c .args .state .lines) 2560 (c .good .0 .1 .1 .1 .1 .1 .0 .1 .0 .1)
+threads-long : (c : tie.Start) → length (c .args .state .run .threads) ≡ 64
+threads-long c = search length-mapped
 
-arrivals-long : (c : tie.Start) → length (c .args .state .arrivals) ≡ 256
-arrivals-long c = length-unmapped ℕ (c .args .state .arrivals) 256 (c .good .0 .1 .1 .1 .1 .1 .1 .1 .0 .1 .0 .1)
-
-sound-long : (c : tie.Start) → length (c .args .state .sound) ≡ 256
-sound-long c = length-unmapped ℕ (c .args .state .sound) 256 (c .good .0 .1 .1 .1 .1 .1 .1 .1 .1 .1 .0 .1 .0 .1)
-
-threads-long : (c : tie.Start) → length (c .args .state .threads) ≡ 64
-threads-long c = length-mapped _ (c .args .state .threads) 64 (c .good .0 .1 .1 .1 .1 .1 .1 .1 .1 .1 .1 .0 .1 .0 .1)
-
-tuples-long : (c : tie.Start) → length (c .args .state .tuples) ≡ 1536
-tuples-long c = length-unmapped ℕ (c .args .state .tuples) 1536 (c .good .0 .1 .1 .1 .1 .1 .1 .1 .1 .1 .1 .1 .1 .0 .1 .0 .1)
+tuples-long : (c : tie.Start) → length (c .args .state .run .tuples) ≡ 1536
+tuples-long c = search length-unmapped
 
 lowest-requires : tie.Need-lowest-requires
 lowest-requires c κs =
     let s = c .before .before .before .before .before .before .before in
-    (s .pre .threads-few, fits-testable (s .pre) (threads-long s) (lines-long s) (arrivals-long s) (sound-long s) (tuples-long s))
+    (s .pre .threads-few, fits-testable (s .pre) (threads-long s) (tuples-long s))
 
 place-of-requires : tie.Need-place-of-requires
 place-of-requires c κs = c .before .before .before .before .before .before .before .before .pre .threads-few

@@ -28,7 +28,7 @@ loop-holds c = (omega arith, omega (arith, c .before .pre .0 .arrivalsLong, c .b
 welcomes-requires : tie.Need-welcomes-requires Inv-loop μ-loop
 welcomes-requires c κs =
     let s = c .before .before .before in
-    (s .pre .0, s .pre .1, s .pre .2, s .pre .3, s .pre .4, omega arith)
+    (s .pre .0, s .pre .1, s .pre .2, s .pre .3, omega arith)
 
 returns : tie.Need-returns Inv-loop μ-loop
 returns c =

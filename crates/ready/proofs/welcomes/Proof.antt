@@ -1,5 +1,4 @@
 use lib.ListN.{getD}
-use Rattle.plan.proofs.Laws.{root-present}
 use Rattle.ready.proofs.Laws.{room-for, open-room, no-room}
 use borrow.Author.Needs.{needs}
 use Rattle.ready.proofs.welcomes.Statement.{statement}
@@ -14,21 +13,19 @@ has-room-requires c κs = search needs
 admitted-requires : tie.Need-admitted-requires
 admitted-requires c κs =
     let s = c .before .before .before in
-    (s .pre .0, s .pre .5, s .pre .1, s .pre .2)
+    (s .pre .0, s .pre .4, s .pre .1, s .pre .2)
 
 returns : tie.Need-returns
 returns c =
     let s = c .before .before .before .before in
     let q = getD (s .args .arrivals .now) (s .args .i) 0 in
-    let low = root-present (s .pre .0) (s .args .i) (s .pre .5) in
-    λ st w. open-room (room-for w (s .args .count) (s .args .a) q (c .before .before .has-room .ensures (s .args .n) (s .pre .3) low)) (c .before .if1 .taken) _ (c .admitted .ensures st w)
+    λ st w. open-room (room-for w (s .args .count) (s .args .a) q (c .before .before .has-room .ensures)) (c .before .if1 .taken) _ (c .admitted .ensures st w)
 
 returns-2 : tie.Need-returns-2
 returns-2 c =
     let s = c .before .before .before in
     let q = getD (s .args .arrivals .now) (s .args .i) 0 in
-    let low = root-present (s .pre .0) (s .args .i) (s .pre .5) in
-    λ st w. no-room (room-for w (s .args .count) (s .args .a) q (c .before .has-room .ensures (s .args .n) (s .pre .3) low)) (c .if1 .left) _
+    λ st w. no-room (room-for w (s .args .count) (s .args .a) q (c .before .has-room .ensures)) (c .if1 .left) _
 
 pub welcomes-spec : {M : Type 1} → statement M
 welcomes-spec =

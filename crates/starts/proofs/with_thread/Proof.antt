@@ -10,20 +10,19 @@ is-nil-requires : tie.Need-is-nil-requires
 is-nil-requires c κs = search needs
 
 returns : tie.Need-returns
-returns c =
-    (omega arith, λ n h. settle-none _ _ _ (c .before .is-nil .ensures n h) (c .if1 .taken))
+returns c = (omega arith, settle-none _ _ _ (c .before .is-nil .ensures) (c .if1 .taken))
 
 push-requires : tie.Need-push-requires
 push-requires c κs = search needs
 
-add-t9 : tie.Need-add-t9
-add-t9 c = search needs
+add-count : tie.Need-add-count
+add-count c = search needs
 
 returns-2 : tie.Need-returns-2
 returns-2 c =
     let a = c .before .before .before in
     let s = a .before in
-    (omega arith, λ n h. settle-one (linesView n (s .args .lines .now)) (threadView (s .args .th)) (threadsView (s .args .list .count) (s .args .list .items)) (a .is-nil .ensures n h) (c .before .before .if1 .left) (c .push .ensures))
+    (omega arith, settle-one (linesView (s .args .nlines) (s .args .lines .now)) (threadView (s .args .th)) (threadsView (s .args .list .count) (s .args .list .items)) (a .is-nil .ensures) (c .before .before .if1 .left) (c .push .ensures))
 
 pub with-thread-spec : {M : Type 1} → statement M
-with-thread-spec = tie.close (tie.spec is-nil-requires returns push-requires add-t9 returns-2)
+with-thread-spec = tie.close (tie.spec is-nil-requires returns push-requires add-count returns-2)

@@ -15,7 +15,7 @@ measure-requires : tie.Need-measure-requires
 measure-requires c κs =
     let s = c .before in
     let t = s .pre .0 in
-    (t .linesFew, t .linesLong, s .pre .1, s .pre .2, t .tuplesFew, λ e. omega (arith, c .plan .ensures .1 .1 e))
+    (s .pre .1, s .pre .2, t .tuplesFew, λ e. omega (arith, c .plan .ensures .1 .1 e))
 
 allowed-requires : tie.Need-allowed-requires
 allowed-requires c κs = (c .before .before .pre .0 .threadPlaced, c .before .plan .ensures .1 .0)

@@ -6,11 +6,11 @@ use Rattle.step.proofs.Counts.{left-few}
 use Rattle.step.proofs.measure.Statement.{statement}
 use Rattle.step.proofs.measure.Tie as tie
 
-on-nil-requires : tie.Need-on-nil-requires
-on-nil-requires c κs = search needs
+is-nil-requires : tie.Need-is-nil-requires
+is-nil-requires c κs = search needs
 
-on-nil-requires-2 : tie.Need-on-nil-requires-2
-on-nil-requires-2 c κs = search needs
+is-nil-requires-2 : tie.Need-is-nil-requires-2
+is-nil-requires-2 c κs = search needs
 
 joins-requires : tie.Need-joins-requires
 joins-requires c κs = search needs
@@ -19,7 +19,7 @@ left-of-requires : tie.Need-left-of-requires
 left-of-requires c κs = search needs
 
 grown-requires : tie.Need-grown-requires
-grown-requires c κs = left-few (c .before .before .before .on-nil .result) _ (c .left-of .ensures) (c .before .before .before .before .before .before .pre .3)
+grown-requires c κs = left-few (c .before .before .before .is-nil .result) _ (c .left-of .ensures) (c .before .before .before .before .before .before .pre .1)
 
 tuples-after-requires : tie.Need-tuples-after-requires
 tuples-after-requires c κs = search needs
@@ -28,8 +28,8 @@ returns : tie.Need-returns
 returns c =
     let ar = c .before .before .before .before .before .before .before .before .args in
     record {
-      nilIs = c .before .before .before .before .before .on-nil .ensures;
-      moreIs = c .before .before .before .joins .ensures ∙ ap (λ (b : Bool). ar .v .adds & not b) (c .before .before .before .before .on-nil2 .ensures);
+      nilIs = c .before .before .before .before .before .is-nil .ensures;
+      moreIs = c .before .before .before .joins .ensures ∙ ap (λ (b : Bool). ar .v .adds & not b) (c .before .before .before .before .is-nil2 .ensures);
       leftIs = c .before .before .left-of .ensures;
       threadsIs = c .before .grown .ensures;
       tuplesIs = c .tuples-after .ensures;
@@ -39,8 +39,8 @@ pub measure-spec : {M : Type 1} → statement M
 measure-spec =
     tie.close
     (tie.spec
-    on-nil-requires
-    on-nil-requires-2
+    is-nil-requires
+    is-nil-requires-2
     joins-requires
     left-of-requires
     grown-requires

@@ -1,182 +1,236 @@
-use mathlib.Core.Path.{refl, sym, subst, _∙_}
-use mathlib.Core.Logic.{_⊎_, ⊎-elim}
-use Prim.Native.Nat.{ℕ, _<_}
+use mathlib.Core.Path.{_≡_, refl, sym, subst, _∙_}
+use Prim.Native.Nat.{_-_, _<_, _≤_}
 use native.Mathlib.Omega.{arith}
-use borrow.Author.Needs.{needs, length-unmapped}
-use lib.ListN.{set, length-set}
+use borrow.Author.Needs.{needs}
+use lib.ListN.{length, set, length-set}
 use Rattle.threads.proofs.Splice.{length-mapped}
-use Rattle.state.specs.View.{stateView}
-use Rattle.state.specs.Fits.{soundAt}
-use Rattle.step.proofs.Steps.{Long, withThreads, no-thread, tables, homes-is, tuples-few, plannable, stepped-no, step-no, room, settled-gone, settled-stays, left-room, performs-alone, performs-more}
+use Rattle.state.specs.declared.Run.{Run}
 use Rattle.state.specs.declared.State.{State}
+use Rattle.state.specs.View.{stateView}
+use Rattle.state.specs.Fits.{Fits}
+use Rattle.state.specs.Lent.{goneOn}
+use Rattle.state.proofs.Lent.{joined, joined-fits}
 use Rattle.plan.specs.Move.{tuplesAfter}
 use Rattle.step.specs.Stepped.{Stepped}
+use Rattle.step.proofs.Steps.{Long, no-thread, tables, homes-is, tuples-few, plannable, stepped-no, stepped-joined, step-no, room, left-room, performs-alone, performs-more}
+use Rattle.step.proofs.Shift.{withThreads, gap-low, Shifted, shifted-none, shifted-more, shifted-long, shifted-all}
 use Rattle.step.proofs.Applied.{rows-view}
 use Rattle.step.proofs.step.Statement.{statement}
 use Rattle.step.proofs.step.Tie as tie
 
-long : (c : tie.Start) → Long (c .args .state)
-long c =
-    let st = c .args .state in
-    record {
-      lines = length-unmapped ℕ (st .lines) 2560 (c .good .0 .1 .1 .1 .1 .1 .0 .1 .0 .1);
-      arrivals = length-unmapped ℕ (st .arrivals) 256 (c .good .0 .1 .1 .1 .1 .1 .1 .1 .0 .1 .0 .1);
-      sound = length-unmapped ℕ (st .sound) 256 (c .good .0 .1 .1 .1 .1 .1 .1 .1 .1 .1 .0 .1 .0 .1);
-      threads = length-mapped _ (st .threads) 64 (c .good .0 .1 .1 .1 .1 .1 .1 .1 .1 .1 .1 .0 .1 .0 .1);
-      tuples = length-unmapped ℕ (st .tuples) 1536 (c .good .0 .1 .1 .1 .1 .1 .1 .1 .1 .1 .1 .1 .1 .0 .1 .0 .1);
-    }
+abbrev Inv-loop : tie.InvT-loop
+Inv-loop homes boxes binds lines nlines arrivals narrivals sound guarded k m r n next₀ ntuples number v s last i₀ next i =
+    Shifted i₀ last next₀ next i × (last < 64) × (length (next₀ .threads) ≡ 64)
 
-refused-requires : tie.Need-refused-requires
-refused-requires c κs = search needs
+abbrev μ-loop : tie.MeasureT-loop
+μ-loop homes boxes binds lines nlines arrivals narrivals sound guarded k m r n next₀ ntuples number v s last i₀ next i = last - i
 
-returns : tie.Need-returns
-unfolding stateView soundAt
+-- the arrays of the run have their lengths
+long : (c : tie.Start Inv-loop μ-loop) → Long (c .args .run)
+long c = record { threads = search length-mapped; tuples = search needs }
+
+-- the state that was handed over in parts
+abbrev handed : tie.Start Inv-loop μ-loop → State
+handed c = joined (c .pre .state) (c .pre .parts)
+
+handed-fits : (c : tie.Start Inv-loop μ-loop) → Fits (handed c)
+handed-fits c = joined-fits (c .pre .state) (c .pre .parts) (c .pre .fits)
+
+refusing-requires : tie.Need-refusing-requires Inv-loop μ-loop
+refusing-requires c κs = search needs
+
+returns : tie.Need-returns Inv-loop μ-loop
 returns c =
     let s = c .before .before in
     let ar = s .args in
-    let st = ar .state in
-    stepped-no (ar .guarded) st (ar .k) (ar .m) (ar .r) _ (no-thread (ar .guarded) st (ar .k) (ar .m) (ar .r) (c .before .if1 .taken) (omega (arith, long s .threads, s .pre .threads-few))) refl (c .refused .ensures) (record { threads-few = s .pre .threads-few; own-few = s .pre .own-few; arrivals-few = s .pre .arrivals-few; sound-is = s .pre .sound-is; invariant = s .pre .invariant })
+    λ x g e.
+    let f = joined-fits x e g in
+    stepped-joined (ar .guarded) (ar .k) (ar .m) (ar .r) x e _ (stepped-no (ar .guarded) (joined x e) (ar .k) (ar .m) (ar .r) (c .refusing .result) f (no-thread (ar .guarded) (joined x e) (ar .k) (ar .m) (ar .r) (c .before .if1 .taken) (omega (arith, long s .threads, f .threads-few))) (c .refusing .ensures))
 
-mul-th : tie.Need-mul-th
-mul-th c = search needs
+mul-th : tie.Need-mul-th Inv-loop μ-loop
+mul-th c = omega (arith, c .if1 .left, handed-fits (c .before) .threads-few)
 
-element-copy-out-th : tie.Need-element-copy-out-th
-element-copy-out-th c = search needs
+element-copy-out-th : tie.Need-element-copy-out-th Inv-loop μ-loop
+element-copy-out-th c = omega (arith, c .if1 .left, handed-fits (c .before) .threads-few)
 
-decide-requires : tie.Need-decide-requires
+decide-requires : tie.Need-decide-requires Inv-loop μ-loop
 decide-requires c κs =
+    let s = c .before .before .before .before in
+    let ar = s .args in
+    let h : ar .k < ar .run .nthreads = c .before .before .before .if1 .left in
+    (plannable (handed s) (handed-fits s) (long s) (ar .k) h, omega (arith, h), handed-fits s .threads-few)
+
+refusing-requires-2 : tie.Need-refusing-requires-2 Inv-loop μ-loop
+refusing-requires-2 c κs = search needs
+
+returns-2 : tie.Need-returns-2 Inv-loop μ-loop
+returns-2 c =
+    let s = c .before .before .before .before .before .before .before in
+    let ar = s .args in
+    let h : ar .k < ar .run .nthreads = c .before .before .before .before .before .before .if1 .left in
+    let d = c .before .before .decide .result in
+    λ x g e.
+    let y = joined x e in
+    let f = joined-fits x e g in
+    let o = c .before .before .decide .ensures (stateView y) (tables y f (long s) (ar .k) h) (homes-is y) in
+    stepped-joined (ar .guarded) (ar .k) (ar .m) (ar .r) x e _ (stepped-no (ar .guarded) y (ar .k) (ar .m) (ar .r) (c .refusing2 .result) f (step-no (ar .guarded) y (ar .k) (ar .m) (ar .r) f (long s) h d o (c .before .if2 .taken)) (c .refusing2 .ensures))
+
+change-tuples-requires : tie.Need-change-tuples-requires Inv-loop μ-loop
+change-tuples-requires c κs =
     let s = c .before .before .before .before .before .before .before .before .before .before in
     let ar = s .args in
-    let st = ar .state in
-    let h : ar .k < st .nthreads = c .before .before .before .before .before .before .before .before .before .if1 .left in
-    (plannable st (s .pre) (long s) (ar .k) h, omega (arith, h), s .pre .threads-few)
-
-refused-requires-2 : tie.Need-refused-requires-2
-refused-requires-2 c κs = search needs
-
-returns-2 : tie.Need-returns-2
-unfolding stateView soundAt
-returns-2 c =
-    let s = c .before .before .before .before .before .before .before .before .before .before .before .before .before in
-    let ar = s .args in
-    let st = ar .state in
-    let h : ar .k < st .nthreads = c .before .before .before .before .before .before .before .before .before .before .before .before .if1 .left in
-    let d = c .before .before .decide .result in
-    let o = c .before .before .decide .ensures (stateView st) (tables st (s .pre) (long s) (ar .k) h) (homes-is st) in
-    stepped-no (ar .guarded) st (ar .k) (ar .m) (ar .r) _ (step-no (ar .guarded) st (ar .k) (ar .m) (ar .r) (s .pre) (long s) h d o (c .before .if2 .taken)) refl (c .refused2 .ensures) (record { threads-few = s .pre .threads-few; own-few = s .pre .own-few; arrivals-few = s .pre .arrivals-few; sound-is = s .pre .sound-is; invariant = s .pre .invariant })
-
-change-tuples-requires : tie.Need-change-tuples-requires
-change-tuples-requires c κs =
-    let s = c .before .before .before .before .before .before .before .before .before .before .before .before .before .before .before .before in
-    let ar = s .args in
-    let st = ar .state in
-    let h : ar .k < st .nthreads = c .before .before .before .before .before .before .before .before .before .before .before .before .before .before .before .if1 .left in
+    let h : ar .k < ar .run .nthreads = c .before .before .before .before .before .before .before .before .before .if1 .left in
+    let y = handed s in
+    let f = handed-fits s in
     let d = c .before .before .before .before .before .decide .result in
-    let o = c .before .before .before .before .before .decide .ensures (stateView st) (tables st (s .pre) (long s) (ar .k) h) (homes-is st) in
-    let t = room (ar .guarded) st (ar .k) (ar .m) (ar .r) (s .pre) (long s) h d o (c .before .before .before .before .if2 .left) .1 in
-    (tuples-few st (s .pre), omega (arith, o .measured .tuplesIs, t), o .taken, long s .tuples)
+    let o = c .before .before .before .before .before .decide .ensures (stateView y) (tables y f (long s) (ar .k) h) (homes-is y) in
+    let t = room (ar .guarded) y (ar .k) (ar .m) (ar .r) f (long s) h d o (c .before .before .before .before .if2 .left) .1 in
+    (tuples-few y f, omega (arith, o .measured .tuplesIs, t), o .taken, long s .tuples)
 
-stepped-requires : tie.Need-stepped-requires
+stepped-requires : tie.Need-stepped-requires Inv-loop μ-loop
 stepped-requires c κs = search needs
 
-remove-requires : tie.Need-remove-requires
-remove-requires c κs =
-    let s = c .before .before .before .before .before .before .before .before .before .before .before .before .before .before .before .before .before .before .before .before .before in
-    let ar = s .args in
-    let st = ar .state in
-    let h : ar .k < st .nthreads = c .before .before .before .before .before .before .before .before .before .before .before .before .before .before .before .before .before .before .before .before .if1 .left in
-    (h, s .pre .threads-few)
+mul-moved : tie.Need-mul-moved Inv-loop μ-loop
+mul-moved c = omega (arith, c .before .before .before .before .before .before .before .before .before .before .before .before .before .if1 .left, handed-fits (c .before .before .before .before .before .before .before .before .before .before .before .before .before .before) .threads-few)
 
-mul-moved : tie.Need-mul-moved
-mul-moved c =
-    let s = c .before .before .before .before .before .before .before .before .before .before .before .before .before .before .before .before .before .before .before .before .before in
-    let ar = s .args in
-    let st = ar .state in
-    let h : ar .k < st .nthreads = c .before .before .before .before .before .before .before .before .before .before .before .before .before .before .before .before .before .before .before .before .if1 .left in
-    omega (arith, h, s .pre .threads-few)
+element-set-from-moved : tie.Need-element-set-from-moved Inv-loop μ-loop
+element-set-from-moved c = omega (arith, c .before .before .before .before .before .before .before .before .before .before .before .before .before .if1 .left, handed-fits (c .before .before .before .before .before .before .before .before .before .before .before .before .before .before) .threads-few)
 
-element-set-from-moved : tie.Need-element-set-from-moved
-element-set-from-moved c =
-    let s = c .before .before .before .before .before .before .before .before .before .before .before .before .before .before .before .before .before .before .before .before .before in
-    let ar = s .args in
-    let st = ar .state in
-    let h : ar .k < st .nthreads = c .before .before .before .before .before .before .before .before .before .before .before .before .before .before .before .before .before .before .before .before .if1 .left in
-    omega (arith, h, s .pre .threads-few)
+sub-last : tie.Need-sub-last Inv-loop μ-loop
+sub-last c = omega (arith, c .before .before .before .before .before .before .before .before .before .before .before .before .before .if1 .left)
 
-mul-added : tie.Need-mul-added
+gap-requires : tie.Need-gap-requires Inv-loop μ-loop
+gap-requires c κs = search needs
+
+loop-holds : tie.Need-loop-holds Inv-loop μ-loop
+loop-holds c =
+    let s = c .before .before .before .before .before .before .before .before .before .before .before .before .before .before .before in
+    let ar = s .args in
+    let h : ar .k < ar .run .nthreads = c .before .before .before .before .before .before .before .before .before .before .before .before .before .before .if1 .left in (
+      shifted-none (c .gap .result) (ar .run .nthreads - 1) _ (gap-low (c .before .before .before .before .before .before .before .before .before .before .decide .result .sizes .nil) (omega arith) (c .gap .ensures)),
+      omega (arith, h, handed-fits (c .before .before .before .before .before .before .before .before .before .before .before .before .before .before .before) .threads-few),
+      length-set (ar .run .threads) (ar .k) (c .before .before .before .before .before .before .before .before .before .before .decide .result .plan .thread) ∙ long s .threads,
+    )
+
+add-up : tie.Need-add-up Inv-loop μ-loop
+add-up c = search needs
+
+mul-up : tie.Need-mul-up Inv-loop μ-loop
+mul-up c = search needs
+
+element-copy-out-up : tie.Need-element-copy-out-up Inv-loop μ-loop
+element-copy-out-up c = search needs
+
+mul-up-2 : tie.Need-mul-up-2 Inv-loop μ-loop
+mul-up-2 c = search needs
+
+element-set-from-up : tie.Need-element-set-from-up Inv-loop μ-loop
+element-set-from-up c = search needs
+
+add-i : tie.Need-add-i Inv-loop μ-loop
+add-i c = search needs
+
+loop-less : tie.Need-loop-less Inv-loop μ-loop
+loop-less c = search needs
+
+loop-again : tie.Need-loop-again Inv-loop μ-loop
+loop-again c =
+    let at = c .before .before .loop in
+    (shifted-more (at .inv .0) (c .before .loop-test .taken) (omega (arith, at .inv .1, at .inv .2)), at .inv .1, at .inv .2)
+
+mul-added : tie.Need-mul-added Inv-loop μ-loop
 mul-added c =
-    let s = c .before .before .before .before .before .before .before .before .before .before .before .before .before .before .before .before .before .before .before .before .before .before in
+    let s = c .before .before .before .before .before .before .before .before .before .before .before .before .before .before .before .before .before .before .before in
     let ar = s .args in
-    let st = ar .state in
-    let h : ar .k < st .nthreads = c .before .before .before .before .before .before .before .before .before .before .before .before .before .before .before .before .before .before .before .before .before .if1 .left in
-    let d = c .before .before .before .before .before .before .before .before .before .before .before .decide .result in
-    let o = c .before .before .before .before .before .before .before .before .before .before .before .decide .ensures (stateView st) (tables st (s .pre) (long s) (ar .k) h) (homes-is st) in
-    let f : d .sizes .left < 64 = left-room (ar .guarded) st (ar .k) (ar .m) (ar .r) (s .pre) (long s) h d o (c .before .before .before .before .before .before .before .before .before .before .if2 .left) (c .before .if4 .taken) in
-    omega (arith, f)
+    let h : ar .k < ar .run .nthreads = c .before .before .before .before .before .before .before .before .before .before .before .before .before .before .before .before .before .before .if1 .left in
+    let y = handed s in
+    let f = handed-fits s in
+    let d = c .before .before .before .before .before .before .before .before .before .before .before .before .before .before .decide .result in
+    let o = c .before .before .before .before .before .before .before .before .before .before .before .before .before .before .decide .ensures (stateView y) (tables y f (long s) (ar .k) h) (homes-is y) in
+    let q : d .sizes .left < 64 = left-room (ar .guarded) y (ar .k) (ar .m) (ar .r) f (long s) h d o (c .before .before .before .before .before .before .before .before .before .before .before .before .before .if2 .left) (c .before .if3 .taken) in
+    omega (arith, q)
 
-element-set-from-added : tie.Need-element-set-from-added
+element-set-from-added : tie.Need-element-set-from-added Inv-loop μ-loop
 element-set-from-added c =
-    let s = c .before .before .before .before .before .before .before .before .before .before .before .before .before .before .before .before .before .before .before .before .before .before in
+    let s = c .before .before .before .before .before .before .before .before .before .before .before .before .before .before .before .before .before .before .before in
     let ar = s .args in
-    let st = ar .state in
-    let h : ar .k < st .nthreads = c .before .before .before .before .before .before .before .before .before .before .before .before .before .before .before .before .before .before .before .before .before .if1 .left in
-    let d = c .before .before .before .before .before .before .before .before .before .before .before .decide .result in
-    let o = c .before .before .before .before .before .before .before .before .before .before .before .decide .ensures (stateView st) (tables st (s .pre) (long s) (ar .k) h) (homes-is st) in
-    let f : d .sizes .left < 64 = left-room (ar .guarded) st (ar .k) (ar .m) (ar .r) (s .pre) (long s) h d o (c .before .before .before .before .before .before .before .before .before .before .if2 .left) (c .before .if4 .taken) in
-    omega (arith, f)
+    let h : ar .k < ar .run .nthreads = c .before .before .before .before .before .before .before .before .before .before .before .before .before .before .before .before .before .before .if1 .left in
+    let y = handed s in
+    let f = handed-fits s in
+    let d = c .before .before .before .before .before .before .before .before .before .before .before .before .before .before .decide .result in
+    let o = c .before .before .before .before .before .before .before .before .before .before .before .before .before .before .decide .ensures (stateView y) (tables y f (long s) (ar .k) h) (homes-is y) in
+    let q : d .sizes .left < 64 = left-room (ar .guarded) y (ar .k) (ar .m) (ar .r) f (long s) h d o (c .before .before .before .before .before .before .before .before .before .before .before .before .before .if2 .left) (c .before .if3 .taken) in
+    omega (arith, q)
 
-returns-3 : tie.Need-returns-3
+returns-3 : tie.Need-returns-3 Inv-loop μ-loop
 unfolding tuplesAfter
 returns-3 c =
-    let s = c .before .before .before .before .before .before .before .before .before .before .before .before .before .before .before .before .before .before .before .before .before .before in
+    let s = c .before .before .before .before .before .before .before .before .before .before .before .before .before .before .before .before .before .before .before in
     let ar = s .args in
-    let st = ar .state in
-    let h : ar .k < st .nthreads = c .before .before .before .before .before .before .before .before .before .before .before .before .before .before .before .before .before .before .before .before .before .if1 .left in
-    let d = c .before .before .before .before .before .before .before .before .before .before .before .decide .result in
-    let o = c .before .before .before .before .before .before .before .before .before .before .before .decide .ensures (stateView st) (tables st (s .pre) (long s) (ar .k) h) (homes-is st) in
-    let z = c .before .before .before .before .before .before .before .before .before .before .if2 .left in
-    let t = c .before .before .before .before .before .change-tuples in
-    let e = c .before .before .before .stepped in
-    let x = c .before .before .if3 in
-    ⊎-elim
-    (λ a. subst (λ (nx : State). Stepped (ar .guarded) st (ar .k) (ar .m) (ar .r) (withThreads nx (set (nx .threads) (d .sizes .left) (d .plan .added)))) (sym (a .3)) (performs-more (ar .guarded) st (ar .k) (ar .m) (ar .r) (s .pre) (long s) h d o z _ _ (e .ensures) (rows-view _ (o .measured .tuplesIs) (t .ensures)) (a .2 .result) (a .2 .ok .1 .0 .1) (settled-gone (ar .guarded) st (ar .k) (ar .m) (ar .r) (s .pre) (long s) h d o (a .2 .result) (a .0 .taken) (a .2 .ensures)) (c .before .if4 .taken)))
-    (λ b. subst (λ (nx : State). Stepped (ar .guarded) st (ar .k) (ar .m) (ar .r) (withThreads nx (set (nx .threads) (d .sizes .left) (d .plan .added)))) (sym (b .2)) (performs-more (ar .guarded) st (ar .k) (ar .m) (ar .r) (s .pre) (long s) h d o z _ _ (e .ensures) (rows-view _ (o .measured .tuplesIs) (t .ensures)) _ (length-set (st .threads) (ar .k) (d .plan .thread) ∙ long s .threads) (settled-stays (ar .guarded) st (ar .k) (ar .m) (ar .r) (s .pre) (long s) h d o (b .0 .left)) (c .before .if4 .taken)))
-    (x .came)
+    let h : ar .k < ar .run .nthreads = c .before .before .before .before .before .before .before .before .before .before .before .before .before .before .before .before .before .before .if1 .left in
+    let d = c .before .before .before .before .before .before .before .before .before .before .before .before .before .before .decide .result in
+    let z = c .before .before .before .before .before .before .before .before .before .before .before .before .before .if2 .left in
+    let t = c .before .before .before .before .before .before .before .before .change-tuples in
+    let a = c .before .before .before .before .before .before .stepped in
+    let at = c .before .before .before .loop in
+    λ x g p.
+    let y = joined x p in
+    let f = joined-fits x p g in
+    let o = c .before .before .before .before .before .before .before .before .before .before .before .before .before .before .decide .ensures (stateView y) (tables y f (long s) (ar .k) h) (homes-is y) in
+    let rows = rows-view _ (o .measured .tuplesIs) (t .ensures) in
+    let few : ar .run .nthreads ≤ length (ar .run .threads) = omega (arith, long s .threads, f .threads-few) in
+    let e = shifted-all (ar .run .nthreads) (ar .k) (ar .run .threads) (d .plan .thread) h few _ refl (d .sizes .nil) (rw (c .before .before .before .before .gap .ensures) at (at .inv .0)) (c .before .before .loop-test .left) in
+    let w = shifted-long (ar .run .nthreads) (ar .k) (ar .run .threads) (d .plan .thread) h few _ refl (at .inv .0) ∙ long s .threads in
+    subst (λ (nx : Run). Stepped (ar .guarded) x (ar .k) (ar .m) (ar .r) (goneOn x (withThreads nx (set (at .next .threads) (d .sizes .left) (d .plan .added))))) (sym (at .inv .0 .same)) (stepped-joined (ar .guarded) (ar .k) (ar .m) (ar .r) x p _ (performs-more (ar .guarded) y (ar .k) (ar .m) (ar .r) f (long s) h d o z _ _ (a .ensures) rows (at .next .threads) w e (c .before .if3 .taken)))
 
-returns-4 : tie.Need-returns-4
+returns-4 : tie.Need-returns-4 Inv-loop μ-loop
 unfolding tuplesAfter
 returns-4 c =
-    let s = c .before .before .before .before .before .before .before .before .before .before .before .before .before .before .before .before .before .before .before .before .before in
+    let s = c .before .before .before .before .before .before .before .before .before .before .before .before .before .before .before .before .before .before in
     let ar = s .args in
-    let st = ar .state in
-    let h : ar .k < st .nthreads = c .before .before .before .before .before .before .before .before .before .before .before .before .before .before .before .before .before .before .before .before .if1 .left in
-    let d = c .before .before .before .before .before .before .before .before .before .before .decide .result in
-    let o = c .before .before .before .before .before .before .before .before .before .before .decide .ensures (stateView st) (tables st (s .pre) (long s) (ar .k) h) (homes-is st) in
-    let z = c .before .before .before .before .before .before .before .before .before .if2 .left in
-    let t = c .before .before .before .before .change-tuples in
-    let e = c .before .before .stepped in
-    let x = c .before .if3 in
-    ⊎-elim
-    (λ a. subst (λ (nx : State). Stepped (ar .guarded) st (ar .k) (ar .m) (ar .r) nx) (sym (a .3)) (performs-alone (ar .guarded) st (ar .k) (ar .m) (ar .r) (s .pre) (long s) h d o z _ _ (e .ensures) (rows-view _ (o .measured .tuplesIs) (t .ensures)) (a .2 .result) (settled-gone (ar .guarded) st (ar .k) (ar .m) (ar .r) (s .pre) (long s) h d o (a .2 .result) (a .0 .taken) (a .2 .ensures)) (c .if4 .left)))
-    (λ b. subst (λ (nx : State). Stepped (ar .guarded) st (ar .k) (ar .m) (ar .r) nx) (sym (b .2)) (performs-alone (ar .guarded) st (ar .k) (ar .m) (ar .r) (s .pre) (long s) h d o z _ _ (e .ensures) (rows-view _ (o .measured .tuplesIs) (t .ensures)) _ (settled-stays (ar .guarded) st (ar .k) (ar .m) (ar .r) (s .pre) (long s) h d o (b .0 .left)) (c .if4 .left)))
-    (x .came)
+    let h : ar .k < ar .run .nthreads = c .before .before .before .before .before .before .before .before .before .before .before .before .before .before .before .before .before .if1 .left in
+    let d = c .before .before .before .before .before .before .before .before .before .before .before .before .before .decide .result in
+    let z = c .before .before .before .before .before .before .before .before .before .before .before .before .if2 .left in
+    let t = c .before .before .before .before .before .before .before .change-tuples in
+    let a = c .before .before .before .before .before .stepped in
+    let at = c .before .before .loop in
+    λ x g p.
+    let y = joined x p in
+    let f = joined-fits x p g in
+    let o = c .before .before .before .before .before .before .before .before .before .before .before .before .before .decide .ensures (stateView y) (tables y f (long s) (ar .k) h) (homes-is y) in
+    let rows = rows-view _ (o .measured .tuplesIs) (t .ensures) in
+    let few : ar .run .nthreads ≤ length (ar .run .threads) = omega (arith, long s .threads, f .threads-few) in
+    let e = shifted-all (ar .run .nthreads) (ar .k) (ar .run .threads) (d .plan .thread) h few _ refl (d .sizes .nil) (rw (c .before .before .before .gap .ensures) at (at .inv .0)) (c .before .loop-test .left) in
+    subst (λ (nx : Run). Stepped (ar .guarded) x (ar .k) (ar .m) (ar .r) (goneOn x nx)) (sym (at .inv .0 .same)) (stepped-joined (ar .guarded) (ar .k) (ar .m) (ar .r) x p _ (performs-alone (ar .guarded) y (ar .k) (ar .m) (ar .r) f (long s) h d o z _ _ (a .ensures) rows (at .next .threads) e (c .if3 .left)))
 
 pub step-spec : {M : Type 1} → statement M
 step-spec =
     tie.close
     (tie.spec
-    refused-requires
+    Inv-loop
+    μ-loop
+    refusing-requires
     returns
     mul-th
     element-copy-out-th
     decide-requires
-    refused-requires-2
+    refusing-requires-2
     returns-2
     change-tuples-requires
     stepped-requires
-    remove-requires
     mul-moved
     element-set-from-moved
+    sub-last
+    gap-requires
+    loop-holds
+    add-up
+    mul-up
+    element-copy-out-up
+    mul-up-2
+    element-set-from-up
+    add-i
+    loop-less
+    loop-again
     mul-added
     element-set-from-added
     returns-3

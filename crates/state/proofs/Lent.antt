@@ -1,0 +1,50 @@
+-- A state handed over in parts, put together again.
+-- Assumes nothing.
+use mathlib.Core.Path.{_≡_, refl, sym, subst}
+use mathlib.Core.List.{List}
+use Prim.Native.Nat.{ℕ}
+use Rattle.state.specs.declared.Run.{Run}
+use Rattle.state.specs.declared.State.{State}
+use Rattle.state.specs.Fits.{Fits}
+use Rattle.state.specs.Lent.{Parts, Handed, goneOn}
+
+-- a state has its own parts
+pub own-parts : (st : State) → Parts st (st .net .homes) (st .net .boxes) (st .estimate .binds) (st .lines) (st .nlines) (st .arrivals) (st .narrivals) (st .sound) (st .run)
+own-parts st = record { homesIs = refl; boxesIs = refl; bindsIs = refl; linesIs = refl; nlinesIs = refl; arrivalsIs = refl; narrivalsIs = refl; soundIs = refl; runIs = refl }
+
+-- a state that has gone on is handed over in its parts
+pub hand-over : (st : State) (run : Run) → Fits (goneOn st run) → Handed (st .net .homes) (st .net .boxes) (st .estimate .binds) (st .lines) (st .nlines) (st .arrivals) (st .narrivals) (st .sound) run
+hand-over st run f = record { state = goneOn st run; parts = own-parts (goneOn st run); fits = f }
+
+module _ {homes boxes binds lines : List ℕ} {nlines : ℕ} {arrivals : List ℕ} {narrivals : ℕ} {sound : List ℕ} {run : Run} (st : State) (e : Parts st homes boxes binds lines nlines arrivals narrivals sound run) where
+  -- the state, its parts named as they were handed over
+  abbrev pub joined : State
+  joined = record {
+    net = record {
+      size = st .net .size;
+      homes = homes;
+      boxes = boxes;
+      tuples = st .net .tuples;
+      ntuples = st .net .ntuples;
+      roots = st .net .roots;
+      nroots = st .net .nroots;
+    };
+    own = st .own;
+    estimate = record { binds = binds; stand = st .estimate .stand; nstand = st .estimate .nstand; hold = st .estimate .hold };
+    lines = lines;
+    nlines = nlines;
+    arrivals = arrivals;
+    narrivals = narrivals;
+    sound = sound;
+    run = run;
+  }
+
+  joined-is : joined ≡ st
+  joined-is = rw (← e .homesIs, ← e .boxesIs, ← e .bindsIs, ← e .linesIs, ← e .nlinesIs, ← e .arrivalsIs, ← e .narrivalsIs, ← e .soundIs, ← e .runIs)
+
+  pub joined-fits : Fits st → Fits joined
+  joined-fits f = subst Fits (sym joined-is) f
+
+  -- what is so of it under these names is so of it
+  pub of-joined : (P : State → Type 0) → P joined → P st
+  of-joined P p = subst P joined-is p

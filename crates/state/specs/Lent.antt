@@ -1,0 +1,40 @@
+-- A state handed to a step in two parts: the tables that no step changes are lent, what a step changes goes by value.
+-- Assumes nothing.
+use mathlib.Core.Path.{_≡_}
+use mathlib.Core.List.{List}
+use Prim.Native.Nat.{ℕ}
+use Rattle.state.specs.declared.Run.{Run}
+use Rattle.state.specs.declared.State.{State}
+use Rattle.state.specs.Fits.{Fits}
+
+-- these are parts of a state
+pub record Parts (st : State) (homes boxes binds lines : List ℕ) (nlines : ℕ) (arrivals : List ℕ) (narrivals : ℕ) (sound : List ℕ) (run : Run) : Type 0 where
+  pub homesIs : st .net .homes ≡ homes
+  pub boxesIs : st .net .boxes ≡ boxes
+  pub bindsIs : st .estimate .binds ≡ binds
+  pub linesIs : st .lines ≡ lines
+  pub nlinesIs : st .nlines ≡ nlines
+  pub arrivalsIs : st .arrivals ≡ arrivals
+  pub narrivalsIs : st .narrivals ≡ narrivals
+  pub soundIs : st .sound ≡ sound
+  pub runIs : st .run ≡ run
+
+-- they are parts of a state that has the invariant
+pub record Handed (homes boxes binds lines : List ℕ) (nlines : ℕ) (arrivals : List ℕ) (narrivals : ℕ) (sound : List ℕ) (run : Run) : Type 0 where
+  pub state : State
+  pub parts : Parts state homes boxes binds lines nlines arrivals narrivals sound run
+  pub fits : Fits state
+
+-- the state that has gone on: all that no step changes, and another run
+abbrev pub goneOn : State → Run → State
+goneOn st run = record {
+  net = st .net;
+  own = st .own;
+  estimate = st .estimate;
+  lines = st .lines;
+  nlines = st .nlines;
+  arrivals = st .arrivals;
+  narrivals = st .narrivals;
+  sound = st .sound;
+  run = run;
+}
