@@ -90,8 +90,8 @@ leb-cases k n = go (leb n k) refl
 abbrev pub Copied : List ℕ → List ℕ → List ℕ → ℕ → Type 0
 Copied old bytes = Filled 0 (λ k. getD bytes k 0) old
 
-pub copied-all : {old bytes new : List ℕ} {i : ℕ} → Copied old bytes new i → 1024 ≤ i → i ≤ 1024 → length bytes ≡ 1024 → 1024 ≤ length old → new ≡ bytes ++ drop 1024 old
-copied-all {old} {bytes} {new} {i} C l m b h =
+pub copied-all : (bytes : List ℕ) {old new : List ℕ} {i : ℕ} → Copied old bytes new i → 1024 ≤ i → i ≤ 1024 → length bytes ≡ 1024 → 1024 ≤ length old → new ≡ bytes ++ drop 1024 old
+copied-all bytes {old} {new} {i} C l m b h =
     ext-getD 0 new (bytes ++ drop 1024 old) (C .long ∙ sym (length-append bytes (drop 1024 old) ∙ size)) (λ k g. at k (leb-cases k 1024))
   where
     size : length bytes + length (drop 1024 old) ≡ length old

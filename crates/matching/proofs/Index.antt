@@ -3,7 +3,7 @@
 use mathlib.Core.Path.{_≡_, refl, sym, ap, ap₂, subst, _∙_}
 use mathlib.Core.Logic.{_⊎_, inl, inr}
 use mathlib.Core.Bool.{Bool, true, false, not, cond, false≢true}
-use mathlib.Core.List.{List, [], _∷_}
+use mathlib.Core.List.{List, [], _∷_, map}
 use Prim.Native.Nat.{ℕ, zero, suc, _+_, _*_, _-_, _/_, _%_, _^_, _<_, _≤_, min}
 use native.Mathlib.Omega.{arith}
 use native.Mathlib.Nat.{pow-suc, div-one, one-mul}
@@ -12,19 +12,20 @@ use lib.Dec.{eqb, ltb}
 use lib.Bits.{bitOr, bitAnd, and-step, and-self, and-le-l, and-le-r}
 use lib.Pow.{shr-shr, shl-exact}
 use lib.Count.{trailingZeros, under, ones, onesIn, ones-step}
-use lib.ListN.{length, getD, drop, set, replicate, length-set, getD-replicate, drop-of-length-le}
-use lib.Seq.{drop-cons, getD-set-same, getD-set-other}
+use lib.ListN.{length, getD, take, drop, length-take, length-map, set, replicate, length-set, getD-replicate}
+use lib.Seq.{ext-getD, getD-take, getD-set-same, getD-set-other}
 use Rattle.sets.specs.Lists.{_&_, either, imp, all, any, only, keep, same, below, table, tableFrom}
-use Rattle.sets.specs.Bits.{has, mem, sites, join, meet}
-use Rattle.sets.proofs.Lists.{iff, same-eq, and-i, and-l, and-r, imp-e, any-at, any-i, length-union, or-case, or-l, or-r, eqb-eq, ltb-lt, lt-ltb}
+use Rattle.sets.specs.Bits.{has, mem, sites, join}
+use Rattle.sets.proofs.Lists.{iff, and-i, and-l, and-r, imp-e, any-at, any-i, length-union, or-case, or-l, or-r, eqb-eq, ltb-lt, lt-ltb}
 use borrow.Author.Tests.{eq-eqb, ne-eqb, le-ltb}
 use Rattle.sets.proofs.Shared.{and-first, and-stop, mem-single, none-high}
-use Rattle.sets.proofs.Bits.{digit, has-and, has-or, has-none, has-half, same-bits}
-use Rattle.sets.proofs.Tables.{below-in, in-below, table-in, table-all}
+use Rattle.sets.proofs.Bits.{digit, has-or, has-none, has-half, same-bits}
+use Rattle.sets.proofs.Tables.{Filled, below-in, in-below, table-in, table-all}
 use Rattle.klaim.specs.Analysis.{choices}
 use Rattle.klaim.specs.Invariant.{allBelow, distinct}
 use Rattle.klaim.proofs.Choices.{fits, product}
 use Rattle.tables.specs.View.{rowAt, rowsView}
+use Rattle.tables.proofs.Lines.{getD-map}
 use Rattle.matching.specs.Index.{inColumn, inRows, inIndex, Indexed, Entered, Low}
 use Rattle.matching.proofs.Laws.{count-rule, only-long, keep-more, keep-none, Sets, sets-long, fits-long, fits-end, fits-at, row-get, among-low}
 
@@ -36,7 +37,7 @@ less-low a b x y z (inl p) (inr q) e f g = rw (div-one, div-one, div-one, e, f, 
 less-low a b x y z (inr p) (inl q) e f g = rw (div-one, div-one, div-one, e, f, g, p, q)
 less-low a b x y z (inr p) (inr q) e f g = rw (div-one, div-one, div-one, e, f, g, p, q)
 
-mem-less : (p a b : ℕ) → mem p (a - bitAnd a b) ≡ (mem p a & not (mem p b))
+pub mem-less : (p a b : ℕ) → mem p (a - bitAnd a b) ≡ (mem p a & not (mem p b))
 mem-less zero a b = less-low a b (a % 2) (b % 2) (a - bitAnd a b) (digit a) (digit b) refl refl (omega (arith, and-step a b, and-le-l (a / 2) (b / 2)))
 mem-less (suc p) a b =
     let e : (a - bitAnd a b) / 2 ≡ a / 2 - bitAnd (a / 2) (b / 2) = omega (arith, and-step a b, and-le-l (a / 2) (b / 2)) in
@@ -63,29 +64,13 @@ mem-other-site (suc k) (suc p) a b e h =
     sym (has-half p b) ∙ mem-other-site k p (a / 2) (b / 2) g (omega arith) ∙ ap not (has-half p a)
 
 -- number w of four
-module _ (p : ℕ) (a b c d e f g h : ℕ) where
-  pub four-and : (w : ℕ) → w < 4 → mem p (getD (bitAnd a e ∷ bitAnd b f ∷ bitAnd c g ∷ bitAnd d h ∷ []) w 0) ≡ (mem p (getD (a ∷ b ∷ c ∷ d ∷ []) w 0) & mem p (getD (e ∷ f ∷ g ∷ h ∷ []) w 0))
-  unfolding meet
-  four-and zero l = has-and a e p
-  four-and (suc zero) l = has-and b f p
-  four-and (suc (suc zero)) l = has-and c g p
-  four-and (suc (suc (suc zero))) l = has-and d h p
-  four-and (suc (suc (suc (suc w)))) l = absurd (omega arith)
-
-  pub four-less : (w : ℕ) → w < 4 → mem p (getD ((a - bitAnd a e) ∷ (b - bitAnd b f) ∷ (c - bitAnd c g) ∷ (d - bitAnd d h) ∷ []) w 0) ≡ (mem p (getD (a ∷ b ∷ c ∷ d ∷ []) w 0) & not (mem p (getD (e ∷ f ∷ g ∷ h ∷ []) w 0)))
-  four-less zero l = mem-less p a e
-  four-less (suc zero) l = mem-less p b f
-  four-less (suc (suc zero)) l = mem-less p c g
-  four-less (suc (suc (suc zero))) l = mem-less p d h
-  four-less (suc (suc (suc (suc w)))) l = absurd (omega arith)
-
-  pub four-or : (w : ℕ) → w < 4 → mem p (getD (bitOr a e ∷ bitOr b f ∷ bitOr c g ∷ bitOr d h ∷ []) w 0) ≡ either (mem p (getD (a ∷ b ∷ c ∷ d ∷ []) w 0)) (mem p (getD (e ∷ f ∷ g ∷ h ∷ []) w 0))
-  unfolding join
-  four-or zero l = has-or a e p
-  four-or (suc zero) l = has-or b f p
-  four-or (suc (suc zero)) l = has-or c g p
-  four-or (suc (suc (suc zero))) l = has-or d h p
-  four-or (suc (suc (suc (suc w)))) l = absurd (omega arith)
+module _ (op : ℕ → ℕ → ℕ) (test : Bool → Bool → Bool) (p : ℕ) (is : (a b : ℕ) → mem p (op a b) ≡ test (mem p a) (mem p b)) (a b c d e f g h : ℕ) where
+  pub four-by : (w : ℕ) → w < 4 → mem p (getD (op a e ∷ op b f ∷ op c g ∷ op d h ∷ []) w 0) ≡ test (mem p (getD (a ∷ b ∷ c ∷ d ∷ []) w 0)) (mem p (getD (e ∷ f ∷ g ∷ h ∷ []) w 0))
+  four-by zero l = is a e
+  four-by (suc zero) l = is b f
+  four-by (suc (suc zero)) l = is c g
+  four-by (suc (suc (suc zero))) l = is d h
+  four-by (suc (suc (suc (suc w)))) l = absurd (omega arith)
 
 pub four-at : (t : List ℕ) (k w : ℕ) → w < 4 → getD (getD t k 0 ∷ getD t (k + 1) 0 ∷ getD t (k + 2) 0 ∷ getD t (k + 3) 0 ∷ []) w 0 ≡ getD t (k + w) 0
 four-at t k zero l = ap (λ (j : ℕ). getD t j 0) (omega arith)
@@ -598,47 +583,21 @@ unfolding _&_
 chosen-is xss row m e true = iff (λ t. and-r (eqb (length row) m) (fits xss row) t) (λ t. and-i (eq-eqb _ _ (fits-long xss row t ∙ e)) t)
 chosen-is xss row m e false = refl
 
--- two rows, from place j on
-same-from : (xs ys : List ℕ) (j : ℕ) → j < length xs → j < length ys → same (drop j xs) (drop j ys) ≡ (eqb (getD xs j 0) (getD ys j 0) & same (drop (suc j) xs) (drop (suc j) ys))
-unfolding same
-same-from xs ys j h l = rw (drop-cons xs j 0 h, drop-cons ys j 0 l)
+-- a tuple's sites, each as a set
+singles-are : (t row : List ℕ) → allBelow 32 row ≡ true → fits (map sites (map (λ v. 2 ^ v) t)) row ≡ same t row
+unfolding fits same allBelow all
+singles-are [] [] h = refl
+singles-are [] (x ∷ xs) h = refl
+singles-are (v ∷ vs) [] h = refl
+singles-are (v ∷ vs) (x ∷ xs) h = ap₂ _&_ (sym (among-low (2 ^ v) x (ltb-lt x 32 (and-l _ _ h))) ∙ mem-single x v) (singles-are vs xs (and-r _ _ h))
 
-same-end : (xs ys : List ℕ) (j : ℕ) → length xs ≤ j → length ys ≤ j → same (drop j xs) (drop j ys) ≡ true
-unfolding same
-same-end xs ys j h l = rw (drop-of-length-le xs h, drop-of-length-le ys l)
-
-eqb-swap : (x y : ℕ) → eqb x y ≡ eqb y x
-eqb-swap x y =
-    iff (λ t. let e : y ≡ x = sym (eqb-eq t) in eq-eqb _ _ e) (λ t. let e : x ≡ y = sym (eqb-eq t) in eq-eqb _ _ e)
-
-module _ (ts bs : List ℕ) (n m i k : ℕ) (here : i < 256) (long : length ts ≡ 1536) (low : allBelow 32 (rowAt ts i) ≡ true) (is : m ≡ length (rowAt ts i)) (there : k < 256) (L : Low n bs) where
-  pub alike-end : (a : Bool) → (a ≡ true → (k < n) × (length (rowAt bs k) ≡ m)) → a ≡ (a & same (drop m (rowAt ts i)) (drop m (rowAt bs k)))
-  unfolding _&_
-  alike-end true f = sym (same-end (rowAt ts i) (rowAt bs k) m (omega arith) (omega (arith, f refl .1)))
-  alike-end false f = refl
-
-  alike-at : (j : ℕ) → j < m → k < n → length (rowAt bs k) ≡ m → (same (drop (suc j) (rowAt ts i)) (drop (suc j) (rowAt bs k)) & (ltb k n & eqb (inColumn bs (j + 1) k) (inColumn ts (j + 1) i))) ≡ same (drop j (rowAt ts i)) (drop j (rowAt bs k))
-  unfolding rowsView
-  alike-at j h l e =
-      and-swap _ _
-      ∙ ap (λ (b : Bool). b & same (drop (suc j) (rowAt ts i)) (drop (suc j) (rowAt bs k))) (and-first (lt-ltb k n l) ∙ ap₂ eqb (row-key bs k j there (L .long) (table-all (allBelow 32) n (rowAt bs) (L .sites) k l) (omega (arith, e))) (row-key ts i j here long low (omega arith)) ∙ eqb-swap (getD (rowAt bs k) j 0) (getD (rowAt ts i) j 0))
-      ∙ sym (same-from (rowAt ts i) (rowAt bs k) j (omega arith) (omega (arith, e)))
-
-  pub alike-down : (j : ℕ) → 0 < j → j ≤ m → (a : Bool) → (a ≡ true → (k < n) × (length (rowAt bs k) ≡ m)) → ((a & same (drop j (rowAt ts i)) (drop j (rowAt bs k))) & (ltb k n & eqb (inColumn bs j k) (inColumn ts j i))) ≡ (a & same (drop (j - 1) (rowAt ts i)) (drop (j - 1) (rowAt bs k)))
-  unfolding _&_
-  alike-down j p h true f =
-      let back : j ≡ suc (j - 1) = omega arith in
-      let col : j ≡ j - 1 + 1 = omega arith in
-      ap₂ (λ (x y : ℕ). same (drop x (rowAt ts i)) (drop x (rowAt bs k)) & (ltb k n & eqb (inColumn bs y k) (inColumn ts y i))) back col ∙ alike-at (j - 1) (omega arith) (f refl .0) (f refl .1)
-  alike-down j p h false f = refl
-
-same-long : (xs ys : List ℕ) → same xs ys ≡ true → length ys ≡ length xs
-same-long xs ys t = ap length (sym (same-eq xs ys t))
-
-pub alike-is : (t row : List ℕ) (m : ℕ) → m ≡ length t → (b : Bool) → ((b & eqb (length row) m) & same t row) ≡ (b & same t row)
+pub singles-fit : (b : Bool) (t row : List ℕ) → (b ≡ true → allBelow 32 row ≡ true) → (b & fits (map sites (map (λ v. 2 ^ v) t)) row) ≡ (b & same t row)
 unfolding _&_
-alike-is t row m e true = iff (λ z. and-r (eqb (length row) m) (same t row) z) (λ z. and-i (eq-eqb _ _ (same-long t row z ∙ sym e)) z)
-alike-is t row m e false = refl
+singles-fit true t row h = singles-are t row (h refl)
+singles-fit false t row h = refl
+
+pub filled-map : (f : ℕ → ℕ) (xs : List ℕ) {l₀ l : List ℕ} {m : ℕ} → Filled 0 (λ k. f (getD xs k 0)) l₀ l m → m ≡ length xs → m ≤ length l₀ → take m l ≡ map f xs
+filled-map f xs {l = l} {m} F e h = ext-getD 0 (take m l) (map f xs) (omega (arith, length-take m l, length-map xs f, F .long)) (λ k g. let b : k < m = omega (arith, length-take m l, F .long) in getD-take m l k 0 b ∙ F .done k b ∙ sym (getD-map f 0 xs k (omega arith)))
 
 -- how many sites a set has
 pub sites-ones : (m : ℕ) → m < 4294967296 → ones m ≡ length (sites m)

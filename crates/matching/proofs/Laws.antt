@@ -21,6 +21,7 @@ use Rattle.klaim.specs.Analysis.{choices}
 use Rattle.klaim.proofs.Choices.{fits, product, choices-count, sites-unlike}
 use Rattle.klaim.proofs.Choices as Choices
 use Rattle.tables.specs.View.{rowAt}
+use Rattle.tables.proofs.Lines.{getD-map}
 
 -- a site is in a set as the code tests it
 pub among-low : (m v : ℕ) → v < 32 → mem v m ≡ among (sites m) v
@@ -78,12 +79,7 @@ keep-none p f = refl
 
 -- the sets at place j
 sets-get : (ms : List ℕ) (m j : ℕ) → j < m → m ≤ 5 → length ms ≡ 5 → getD (Sets ms m) j [] ≡ sites (getD ms j 0)
-sets-get ms m j h l e = map-get sites (take m ms) j (omega (arith, length-take m ms)) ∙ ap sites (getD-take m ms j 0 h)
-  where
-    map-get : (f : ℕ → List ℕ) (xs : List ℕ) (j : ℕ) → j < length xs → getD (map f xs) j [] ≡ f (getD xs j 0)
-    map-get f [] j h = absurd (omega arith)
-    map-get f (x ∷ xs) zero h = refl
-    map-get f (x ∷ xs) (suc j) h = map-get f xs j (omega arith)
+sets-get ms m j h l e = getD-map sites [] (take m ms) j (omega (arith, length-take m ms)) ∙ ap sites (getD-take m ms j 0 h)
 
 pub sets-long : (ms : List ℕ) (m : ℕ) → m ≤ 5 → length ms ≡ 5 → length (Sets ms m) ≡ m
 sets-long ms m l e = length-map (take m ms) sites ∙ omega (arith, length-take m ms)

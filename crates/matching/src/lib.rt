@@ -2,7 +2,7 @@
 ghost use mathlib.Core.Path.{_≡_};
 ghost use mathlib.Core.Bool.{true, not};
 ghost use mathlib.Core.List.{List, map};
-ghost use Prim.Native.Nat.{ℕ, _<_, _≤_, _*_, min};
+ghost use Prim.Native.Nat.{ℕ, _<_, _≤_, _+_, _*_, _^_, min};
 ghost use lib.Dec.{ltb};
 ghost use lib.Bits.{bitOr};
 ghost use lib.ListN.{length, getD, take, set, replicate};
@@ -289,16 +289,16 @@ pub fn every_choice(index: &[u64; 768], reaches: [u32; 5], m: usize) -> bool
     have == need
 }
 
-// The rows, of some with m sites, that are alike to tuple i.
-fn alike(index: &[u64; 768], had: RowSet, tuples: &[u8; 1536], i: usize, m: usize) -> RowSet
-    requires { ⌜ (i < 256) × (m ≤ 5) × (length (now index) ≡ 768) × (length (now tuples) ≡ 1536) × (m ≡ length (rowAt (now tuples) i)) × (allBelow 32 (rowAt (now tuples) i) ≡ true) ⌝ }
-    ensures { λ r. ⌜ ((n : ℕ) (bs : List ℕ) → Indexed n bs (now (index .entry)) → Low n bs → Long n bs m (words had) → (k : ℕ) → k < 256 → inRows (words r) k ≡ (inRows (words had) k & same (rowAt (now (tuples .entry)) i) (rowAt bs k))) ⌝ }
+// For each of the m sites of tuple i the set of it alone.
+fn singles(tuples: &[u8; 1536], i: usize, m: usize) -> [u32; 5]
+    requires { ⌜ (i < 256) × (m ≤ 5) × (length (now tuples) ≡ 1536) × (m ≡ length (rowAt (now tuples) i)) × (allBelow 32 (rowAt (now tuples) i) ≡ true) ⌝ }
+    ensures { λ r. ⌜ take m r ≡ map (λ v. 2 ^ v) (rowAt (now (tuples .entry)) i) ⌝ }
 {
-    let mut r = had;
-    let mut j = m;
-    while 0 < j {
-        r = in_both(r, rows_with(index, j, key(tuples, i, j)));
-        j -= 1;
+    let mut r = [0u32; 5];
+    let mut j = 0;
+    while j < m {
+        r[j] = sets::single(tuples[6 * i + 1 + j]);
+        j += 1;
     }
     r
 }
@@ -309,6 +309,6 @@ pub fn has_row(index: &[u64; 768], tuples: &[u8; 1536], i: usize) -> bool
     ensures { λ r. ⌜ ((n : ℕ) (bs : List ℕ) → Indexed n bs (now (index .entry)) → Low n bs → r ≡ any (same (rowAt (now (tuples .entry)) i)) (rowsView n bs)) ⌝ }
 {
     let m = row_len(tuples, i);
-    let had = rows_with(index, 0, m);
-    some_row(alike(index, had, tuples, i, m))
+    let sets = singles(tuples, i, m);
+    some_row(chosen(index, sets, m))
 }

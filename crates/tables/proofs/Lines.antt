@@ -73,7 +73,7 @@ length-fields bs q h = omega (arith, length-take 4 (drop (10 * q + 6) bs), lengt
 pub length-first : (bs : List ℕ) (q k : ℕ) → 10 * q + 10 ≤ length bs → k ≤ 4 → length (take k (fieldBytes bs q)) ≡ k
 length-first bs q k h l = omega (arith, length-take k (fieldBytes bs q), length-fields bs q h)
 
-getD-map : {A : Type 0} (f : ℕ → A) (d : A) (xs : List ℕ) (j : ℕ) → j < length xs → getD (map f xs) j d ≡ f (getD xs j 0)
+pub getD-map : {A : Type 0} (f : ℕ → A) (d : A) (xs : List ℕ) (j : ℕ) → j < length xs → getD (map f xs) j d ≡ f (getD xs j 0)
 getD-map f d [] j h = absurd (omega arith)
 getD-map f d (x ∷ xs) zero h = refl
 getD-map f d (x ∷ xs) (suc j) h = getD-map f d xs j (omega arith)

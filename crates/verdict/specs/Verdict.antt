@@ -1,4 +1,4 @@
--- The code's verdict, and its places as the definitions have them.
+-- The code's verdict as the definitions have it, and the tables that are judged.
 -- Assumes nothing.
 use mathlib.Core.Path.{_≡_}
 use mathlib.Core.Bool.{true}

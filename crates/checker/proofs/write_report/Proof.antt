@@ -49,7 +49,7 @@ same-length c = c .before .loop .inv .1 .long
 
 -- src/lib.rt:66:1
 returns : tie.Need-returns Inv-loop μ-loop
-returns c = (c .before .loop .inv .1 .long, copied-all (c .before .loop .inv .1) (c .loop-test .left) (c .before .loop .inv .0) (bytes-long (c .before .before)) (c .before .before .pre))
+returns c = (c .before .loop .inv .1 .long, copied-all (c .before .before .args .t2) (c .before .loop .inv .1) (c .loop-test .left) (c .before .loop .inv .0) (bytes-long (c .before .before)) (c .before .before .pre))
 
 pub write-report-spec : {M : Type 1} → statement M
 write-report-spec =

@@ -1,7 +1,11 @@
 use Prim.Native.Nat.{_/_, _%_}
 use native.Mathlib.Omega.{arith}
+use lib.Bits.{bitOr}
+use Rattle.sets.specs.Lists.{either}
+use Rattle.sets.specs.Bits.{join}
+use Rattle.sets.proofs.Bits.{has-or}
 use Rattle.matching.specs.Index.{words, inRows}
-use Rattle.matching.proofs.Index.{four-or}
+use Rattle.matching.proofs.Index.{four-by}
 use Rattle.matching.proofs.in_either.Statement.{statement}
 use Rattle.matching.proofs.in_either.Tie as tie
 use Rattle.matching.proofs.in_either.Reads as reads
@@ -9,8 +13,8 @@ use Rattle.matching.proofs.in_either.Lts as lts
 
 -- src/lib.rt:335:1
 returns : tie.Need-returns
-unfolding inRows words
-returns c = λ i h. four-or (i % 64) _ _ _ _ _ _ _ _ (i / 64) (omega arith)
+unfolding inRows words join
+returns c = λ i h. four-by bitOr either (i % 64) (λ a b. has-or a b (i % 64)) _ _ _ _ _ _ _ _ (i / 64) (omega arith)
 
 pub in-either-spec : {M : Type 1} → statement M
 in-either-spec = tie.close (tie.spec returns)

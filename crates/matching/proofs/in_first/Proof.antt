@@ -1,8 +1,10 @@
-use Prim.Native.Nat.{_/_, _%_}
+use Prim.Native.Nat.{_-_, _/_, _%_}
 use native.Mathlib.Omega.{arith}
-use lib.Bits.{and-le-l}
+use lib.Bits.{bitAnd, and-le-l}
+use mathlib.Core.Bool.{not}
+use Rattle.sets.specs.Lists.{_&_}
 use Rattle.matching.specs.Index.{words, inRows}
-use Rattle.matching.proofs.Index.{four-less}
+use Rattle.matching.proofs.Index.{mem-less, four-by}
 use Rattle.matching.proofs.in_first.Statement.{statement}
 use Rattle.matching.proofs.in_first.Tie as tie
 use Rattle.matching.proofs.in_first.Reads as reads
@@ -27,7 +29,7 @@ sub-t10 c = and-le-l _ _
 -- src/lib.rt:334:1
 returns : tie.Need-returns
 unfolding inRows words
-returns c = λ i h. four-less (i % 64) _ _ _ _ _ _ _ _ (i / 64) (omega arith)
+returns c = λ i h. four-by (λ a b. a - bitAnd a b) (λ x y. x & not y) (i % 64) (mem-less (i % 64)) _ _ _ _ _ _ _ _ (i / 64) (omega arith)
 
 pub in-first-spec : {M : Type 1} → statement M
 in-first-spec = tie.close (tie.spec sub-t4 sub-t6 sub-t8 sub-t10 returns)
