@@ -8,7 +8,7 @@ use native.Mathlib.Omega.{arith}
 use lib.Dec.{eqb, leb, ltb}
 use lib.Seq.{take-nil}
 use borrow.Author.Tests.{leb-true, leb-false, le-ltb, lt-ltb, ne-eqb}
-use Rattle.sets.specs.Lists.{_&_, either, imp, all, any, only, keep, sum, count, concat, _∪_}
+use Rattle.sets.specs.Lists.{_&_, either, imp, all, any, only, keep, sum, count, concat, _⧺_}
 use Rattle.sets.proofs.Lists.{and-l, and-r, count-union, count-one}
 use Rattle.klaim.specs.Process.{In, Read, template, clash, usedIn, boundIn}
 use Rattle.klaim.specs.declared.Loc.{Loc}
@@ -70,8 +70,8 @@ bound-slot m = go (eqb (m .kind) 4) refl
     go false e = rw e
 
 module _ (q r : ℕ → Bool) (opposed : (u : ℕ) → q u ≡ not (r u)) where
-  one-bound : (b : Bool) (n : ℕ) (xs : List ℕ) (a : Bool) → any q xs ≡ not a → any q (only b n ∪ xs) ≡ not (imp b (r n) & a)
-  unfolding any only either imp _∪_ _&_
+  one-bound : (b : Bool) (n : ℕ) (xs : List ℕ) (a : Bool) → any q xs ≡ not a → any q (only b n ⧺ xs) ≡ not (imp b (r n) & a)
+  unfolding any only either imp _⧺_ _&_
   one-bound true n xs a h = rw (opposed n, h) (go (r n))
     where
       go : (c : Bool) → either (not c) (not a) ≡ not (c & a)
@@ -95,7 +95,7 @@ clash-names : (f : Four) → all (upTo 4) (names f) ≡ true → clash (map slot
 unfolding clash single
 clash-names f p =
     any-bound
-    (λ u. ltb 1 (count u (concat usedIn (map slot (names f)) ∪ concat boundIn (map slot (names f)))))
+    (λ u. ltb 1 (count u (concat usedIn (map slot (names f)) ⧺ concat boundIn (map slot (names f)))))
     (λ u. leb (sum (hits u) (names f)) 1)
     (λ u. rw (count-union u (concat usedIn (map slot (names f))) (concat boundIn (map slot (names f))), count-names u (names f) p) (more-not (sum (hits u) (names f))))
     (names f)

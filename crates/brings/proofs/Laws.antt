@@ -26,7 +26,7 @@ use Rattle.klaim.proofs.Process.{tree-old, ordered-join}
 use Rattle.sets.proofs.Tables.{same-table, length-table}
 use Rattle.tables.specs.View.{estimateView, lineOf, linesView, rowAt, rowsView, InForm}
 use Rattle.tables.proofs.Lines.{length-view, line-view}
-use Rattle.flow.proofs.Sites.{mem-single}
+use Rattle.sets.proofs.Shared.{mem-single}
 use Rattle.rules.specs.Masks.{Sized}
 use Rattle.door.specs.Parts.{sound}
 use Rattle.arrivals.specs.declared.ArrivalRead.{ArrivalRead}

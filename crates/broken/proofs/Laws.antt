@@ -5,7 +5,7 @@ use mathlib.Core.Bool.{Bool, true, false, not, cond}
 use mathlib.Core.List.{List, [], _∷_}
 use Prim.Native.Nat.{ℕ, _≤_, min}
 use native.Mathlib.Omega.{arith}
-use Rattle.sets.specs.Lists.{_∪_, only}
+use Rattle.sets.specs.Lists.{_⧺_, only}
 use Rattle.klaim.specs.declared.Loc.{Loc}
 use Rattle.klaim.specs.declared.Slot.{Slot}
 use Rattle.klaim.specs.Process.{Tree, outT, getT, evalT, node, tree}
@@ -21,13 +21,13 @@ unfolding lowest
 lowest-high [] = omega arith
 lowest-high (x ∷ xs) = omega (arith, lowest-high xs)
 
-pub lowest-both : (xs ys : List ℕ) → lowest (xs ∪ ys) ≡ min (lowest xs) (lowest ys)
-unfolding lowest _∪_
+pub lowest-both : (xs ys : List ℕ) → lowest (xs ⧺ ys) ≡ min (lowest xs) (lowest ys)
+unfolding lowest _⧺_
 lowest-both [] ys = omega (arith, lowest-high ys)
 lowest-both (x ∷ xs) ys = omega (arith, lowest-both xs ys)
 
-pub lowest-here : (b : Bool) (q : ℕ) (xs : List ℕ) → lowest (only (not b) q ∪ xs) ≡ cond b (lowest xs) (min q (lowest xs))
-unfolding lowest _∪_ only
+pub lowest-here : (b : Bool) (q : ℕ) (xs : List ℕ) → lowest (only (not b) q ⧺ xs) ≡ cond b (lowest xs) (min q (lowest xs))
+unfolding lowest _⧺_ only
 lowest-here true q xs = refl
 lowest-here false q xs = refl
 

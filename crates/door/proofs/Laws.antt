@@ -10,7 +10,7 @@ use Rattle.sets.specs.Lists.{All, more, _&_, all, empty, below, table}
 use Rattle.sets.specs.Bits.{within}
 use Rattle.sets.proofs.Lists.{All-turn, all-same}
 use Rattle.sets.proofs.Tables.{getD-table, in-below}
-use Rattle.sets.proofs.Shared.{and-first}
+use Rattle.sets.proofs.Lists.{and-yes}
 use Rattle.klaim.specs.Process.{Line, Tree, tree}
 use Rattle.klaim.specs.Net.{Net, Estimate, boxAt}
 use Rattle.klaim.specs.Analysis.{placeSet, broken}
@@ -45,7 +45,7 @@ module _ (N : Net) (E : Estimate) (l : ℕ) (ls : List Line) (q : ℕ) {P b : �
   sound-adds few h z =
       z
       ∙ ap (λ (x : ℕ). addsNothing N E x (tree ls q)) p
-      ∙ sym (and-first (lowest-empty (broken N E (2 ^ l) (tree ls q)) (All-turn (λ x i. omega arith) (broken-low N E (2 ^ l) ls q)) (sym (e ∙ ap (λ (x : ℕ). lowest (broken N E x (tree ls q))) p) ∙ h)))
+      ∙ sym (and-yes _ (lowest-empty (broken N E (2 ^ l) (tree ls q)) (All-turn (λ x i. omega arith) (broken-low N E (2 ^ l) ls q)) (sym (e ∙ ap (λ (x : ℕ). lowest (broken N E x (tree ls q))) p) ∙ h)))
 
 -- the test against the sandbox
 pub uses-tests : (N : Net) (E : Estimate) (d l : ℕ) (t : Tree) {P : ℕ} → P ≡ 2 ^ l → {m : List ℕ} {u : Bool} → m ≡ table 32 (uses N E P t) → u ≡ all (λ s. within (getD m s 0) (boxAt N d l s)) (below 32) → u ≡ usesFit N E d l t

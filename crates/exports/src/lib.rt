@@ -2,7 +2,6 @@
 //! call begins from the texts, and does its work `count` times. Proved safe and ending; what is promised stands at the calls themselves.
 ghost use mathlib.Core.Path.{_≡_};
 ghost use Prim.Native.Nat.{_<_, _≤_};
-ghost use lib.ListN.{length};
 ghost use Rattle.state.specs.Fits.{Fits};
 ghost use Rattle.state.specs.Lent.{goneOn};
 use checker::Answer;

@@ -1,15 +1,15 @@
 -- A sandbox evaluated at each site of a set.
 -- Assumes nothing.
 use mathlib.Core.Path.{_≡_, refl, sym, ap, _∙_}
-use mathlib.Core.Bool.{Bool, true, false, cond, false≢true}
+use mathlib.Core.Bool.{Bool, true, false, false≢true}
 use mathlib.Core.List.{List, [], _∷_}
 use Prim.Native.Nat.{ℕ, _+_, _*_, _^_, _<_}
 use lib.ListN.{getD}
 use lib.Dec.{eqb}
 use borrow.Author.Tests.{eq-eqb, ne-eqb}
-use Rattle.sets.specs.Lists.{Elem, _&_, all, any, keep, below, table, tableFrom, only, _∪_}
+use Rattle.sets.specs.Lists.{Elem, _&_, all, keep, below, table, tableFrom, only, _⧺_}
 use Rattle.sets.specs.Bits.{everyRight, has, mem, sites, meet, joins, meets}
-use Rattle.sets.proofs.Lists.{iff, and-l, and-r, and-i, eqb-eq, all-at, all-i}
+use Rattle.sets.proofs.Lists.{iff, and-l, eqb-eq, all-at, all-i}
 use Rattle.sets.proofs.Bits.{has-and, has-joins, joins-has, same-bits, sites-in, in-sites}
 use Rattle.klaim.specs.Net.{Net, box, boxSelf, boxAt}
 use Rattle.klaim.specs.Report.{sure}
@@ -40,7 +40,7 @@ at-within N k l t n h = go (eqb t l) refl
 
 -- no places
 pub over-none : (N : Net) (k m t : ℕ) → m ≡ 0 → 0 ≡ joins (λ l. boxAt N k l t) (sites m)
-unfolding joins sites keep below table tableFrom has only _∪_
+unfolding joins sites keep below table tableFrom has only _⧺_
 over-none N k m t e = rw e
 
 -- t is the one place
@@ -73,7 +73,7 @@ meets-as : (f : ℕ → ℕ) (v : ℕ) (xs : List ℕ) → ((n : ℕ) → has v 
 meets-as f v xs h = same-bits _ _ (λ n. has-and v everyRight n ∙ ap (λ (b : Bool). b & has everyRight (2 ^ n)) (h n) ∙ sym (has-meets f n xs))
 
 pub sure-none : (N : Net) (k m t : ℕ) → m ≡ 0 → everyRight ≡ sure N k m t
-unfolding sure meets sites keep below table tableFrom has only _∪_
+unfolding sure meets sites keep below table tableFrom has only _⧺_
 sure-none N k m t e = rw e
 
 pub sure-own : (N : Net) (k m t : ℕ) → t < 32 → mem t m ≡ true → meet (boxAt N k t t) everyRight ≡ sure N k m t

@@ -12,8 +12,7 @@ use Rattle.sets.specs.Bits.{has, mem}
 use Rattle.sets.proofs.Lists.{iff, and-l, and-r, not-no, not-yes, eqb-eq, all-at, any-at, any-none, none-all}
 use Rattle.sets.proofs.Tables.{below-in, in-below}
 use Rattle.sets.proofs.Bits.{has-none, same-bits}
-use Rattle.sets.proofs.Shared.{none-high}
-pub use Rattle.sets.proofs.Shared.{mem-single}
+use Rattle.sets.proofs.Shared.{mem-single, none-high}
 
 -- a set of sites that is not 0 has a site
 pub some-site : (m : ℕ) → m < 2 ^ 32 → (m ≡ 0 → ⊥) → (s : ℕ) × (s < 32) × (mem s m ≡ true)

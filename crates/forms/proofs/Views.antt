@@ -9,7 +9,7 @@ use Prim.Native.Nat.{ℕ, _<_}
 use native.Mathlib.Omega.{arith}
 use lib.Dec.{eqb, ltb}
 use borrow.Author.Tests.{lt-ltb, ltb-true, leb-true}
-use Rattle.sets.specs.Lists.{_&_, either, only, _∪_}
+use Rattle.sets.specs.Lists.{_&_, either, only, _⧺_}
 use Rattle.sets.proofs.Lists.{and-l, and-r, eqb-eq}
 use Rattle.klaim.specs.Rows.{given, groupN, groupR, groupD, groupT, groupL, groupQ, groupB, groupA, groupE, rowLine}
 use Rattle.text.specs.declared.Name.{Name}
@@ -89,7 +89,7 @@ unfolding rowView rowData given
 view-plain r g k = rw (g, k)
 
 -- a row from its parts
-row-from : (r : RowData) (boxes vars sites lines : List ℕ) → ltb 0 (r .group) ≡ true → eqb (r .line .kind) 0 ≡ true → listed (r .line .sandbox) ≡ boxes → listed (r .variable) ≡ vars → sitesTo (r .line .target) ∪ numbers (r .line .fields) ≡ sites → listed (r .own) ≡ lines → rowView r ≡ some (rowAs (r .group) (r .size) boxes vars sites lines (r .rights))
+row-from : (r : RowData) (boxes vars sites lines : List ℕ) → ltb 0 (r .group) ≡ true → eqb (r .line .kind) 0 ≡ true → listed (r .line .sandbox) ≡ boxes → listed (r .variable) ≡ vars → sitesTo (r .line .target) ⧺ numbers (r .line .fields) ≡ sites → listed (r .own) ≡ lines → rowView r ≡ some (rowAs (r .group) (r .size) boxes vars sites lines (r .rights))
 unfolding plainRow
 row-from r boxes vars sites lines g k b v s l = view-plain r g (eqb-eq k) ∙ rw (b, v, s, l)
 
@@ -99,7 +99,7 @@ module _ (r : RowData) (G : rowGood r ≡ true) where
   shape-n e = rw e at G
 
   pub view-n : r .group ≡ groupN → rowView r ≡ some (rowAs (r .group) (r .size) [] [] [] [] (r .rights))
-  unfolding _∪_
+  unfolding _⧺_
   view-n e =
       let P = parts (and-r _ _ (shape-n e)) in
       row-from r [] [] [] [] (rw e) (and-l _ _ (shape-n e)) (absent _ (P .sandbox-is)) (absent _ (P .variable-is)) (rw (no-site _ (P .target-is), no-fields _ (P .fields-is))) (absent _ (P .own-is))
@@ -114,7 +114,7 @@ module _ (r : RowData) (G : rowGood r ≡ true) where
 
   -- an R or an E row
   pub view-pair : pairGroup (r .group) ≡ true → (rowView r ≡ some (rowAs (r .group) (r .size) [] [] (r .line .target .number ∷ r .line .fields .a .number ∷ []) [] (r .rights))) × (0 < r .rights)
-  unfolding _∪_
+  unfolding _⧺_
   view-pair h =
       let s = and-r _ _ (shape-pair h) in
       let P = parts (and-r _ _ s) in
@@ -139,7 +139,7 @@ module _ (r : RowData) (G : rowGood r ≡ true) where
 
   -- a T or an A row: one to four fields, all sites
   pub view-tuple : tupleGroup (r .group) ≡ true → (rowView r ≡ some (rowAs (r .group) (r .size) [] [] (r .line .target .number ∷ numbers (r .line .fields)) [] (r .rights))) × (fitAll 1 (r .line .fields) ≡ true)
-  unfolding _∪_ fieldsFit
+  unfolding _⧺_ fieldsFit
   view-tuple h =
       let P = parts (and-r _ _ (shape-tuple h)) in
       (row-from r [] [] _ [] (tuple-some _ h) (and-l _ _ (shape-tuple h)) (absent _ (P .sandbox-is)) (absent _ (P .variable-is)) (rw (one-site _ (P .target-is))) (absent _ (P .own-is)), P .fields-is)
@@ -149,7 +149,7 @@ module _ (r : RowData) (G : rowGood r ≡ true) where
   shape-l e = rw e at G
 
   pub view-l : r .group ≡ groupL → rowView r ≡ some (rowAs (r .group) (r .size) [] [] (r .line .target .number ∷ []) (r .own ∷ []) (r .rights))
-  unfolding _∪_
+  unfolding _⧺_
   view-l e =
       let P = parts (and-r _ _ (shape-l e)) in
       row-from r [] [] _ _ (rw e) (and-l _ _ (shape-l e)) (absent _ (P .sandbox-is)) (absent _ (P .variable-is)) (rw (one-site _ (P .target-is), no-fields _ (P .fields-is))) (there _ (P .own-is))
@@ -159,7 +159,7 @@ module _ (r : RowData) (G : rowGood r ≡ true) where
   shape-b e = rw e at G
 
   pub view-b : r .group ≡ groupB → rowView r ≡ some (rowAs (r .group) (r .size) [] (r .variable ∷ []) (r .line .target .number ∷ []) [] (r .rights))
-  unfolding _∪_
+  unfolding _⧺_
   view-b e =
       let P = parts (and-r _ _ (shape-b e)) in
       row-from r [] _ _ [] (rw e) (and-l _ _ (shape-b e)) (absent _ (P .sandbox-is)) (there _ (P .variable-is)) (rw (one-site _ (P .target-is), no-fields _ (P .fields-is))) (absent _ (P .own-is))

@@ -5,7 +5,7 @@ use mathlib.Core.List.{List, map}
 use mathlib.Core.Option.{Option, some}
 use Prim.Native.Nat.{ℕ}
 use lib.Dec.{eqb, ltb}
-use Rattle.sets.specs.Lists.{_&_, either, only, _∪_}
+use Rattle.sets.specs.Lists.{_&_, either, only, _⧺_}
 use Rattle.klaim.specs.Process.{Nil}
 use Rattle.klaim.specs.Rows.{Row, given, rowLine, groupN, groupR, groupD, groupT, groupL, groupQ, groupB, groupA, groupE}
 use Rattle.text.specs.declared.Name.{Name}
@@ -24,7 +24,7 @@ plainRow r = record {
   size = r .size;
   boxes = listed (r .line .sandbox);
   vars = listed (r .variable);
-  sites = sitesTo (r .line .target) ∪ map (λ (m : Name). m .number) (names (r .line .fields));
+  sites = sitesTo (r .line .target) ⧺ map (λ (m : Name). m .number) (names (r .line .fields));
   lines = listed (r .own);
   rights = r .rights;
   process = Nil;

@@ -8,7 +8,7 @@ use Prim.Native.Nat.{ℕ, zero, suc, _≤_, _<_}
 use native.Mathlib.Omega.{arith}
 use lib.Dec.{eqb, leb, ltb}
 use borrow.Author.Tests.{leb-true, le-leb, lt-leb, lt-ltb, le-ltb, ltb-true, ltb-false, ne-eqb}
-use Rattle.sets.specs.Lists.{_&_, either, imp, all, only, concat, _∪_}
+use Rattle.sets.specs.Lists.{_&_, either, imp, all, only, concat, _⧺_}
 use Rattle.sets.proofs.Lists.{and-l, and-r, and-i, iff, eqb-eq, and-true, all-map}
 use Rattle.klaim.specs.Limits.{siteLimit, boxLimit, varLimit, lineLimit}
 use Rattle.klaim.specs.declared.Slot.{Slot}
@@ -143,7 +143,7 @@ module _ (most n : ℕ) (h : 1 ≤ most) where
       let e : m .kind ≡ 1 = omega (arith, leb-true 1 (m .kind) (and-l _ _ p), leb-true (m .kind) 1 (and-r _ _ p)) in
       rw (e, le-ltb most 1 h)
 
-  plain-names : {r : RowData} → Plain r → all (under n) (sitesTo (r .line .target) ∪ map (λ (m : Name). m .number) (names (r .line .fields))) ≡ lowNames most n (r .line)
+  plain-names : {r : RowData} → Plain r → all (under n) (sitesTo (r .line .target) ⧺ map (λ (m : Name). m .number) (names (r .line .fields))) ≡ lowNames most n (r .line)
   unfolding lowNames
   plain-names {r} P =
       all-union (under n) (sitesTo (r .line .target)) (map (λ (m : Name). m .number) (names (r .line .fields)))
@@ -154,7 +154,7 @@ pub sites-are : (n : ℕ) {r : RowData} → Good r → lowNames 1 n (r .line) �
 unfolding absent rowData rowLine plainRow lowNames
 sites-are n {r} (q-row e k l P o) =
     rw (lt-ltb 0 (r .line .kind) k, none-reaches n (concat sitesIn (slotsOf (lineOf (r .line)))), all-concat (under n) sitesIn (slotsOf (lineOf (r .line)))) (sym (names-test (λ s. all (under n) (sitesIn s)) (lowName 1 n) (low-site n) (no-name 1 n) P))
-sites-are n {r} (plain-row e k P) = rw (k, none-reaches n (sitesTo (r .line .target) ∪ map (λ (m : Name). m .number) (names (r .line .fields)))) (sym (plain-names 1 n (omega arith) P))
+sites-are n {r} (plain-row e k P) = rw (k, none-reaches n (sitesTo (r .line .target) ⧺ map (λ (m : Name). m .number) (names (r .line .fields)))) (sym (plain-names 1 n (omega arith) P))
 
 -- 2
 q-order : (q a b c v s : Bool) → q & ((a & (b & c)) & (v & s)) ≡ c & (v & (s & (q & (a & b))))
@@ -183,7 +183,7 @@ plain-order a b c n = iff to from
     from h = let x = and-r _ _ (and-r _ _ h) in and-i (and-l _ _ (and-r _ _ h)) (and-i (and-r _ _ x) (and-i (and-l _ _ h) (and-l _ _ x)))
 
 -- the names of a line: variables, then sites
-line-names : (n : ℕ) {d : LineData} → Parts d → lowNames 4 n d ≡ all (under n) (concat usedIn (slotsOf (lineOf d)) ∪ concat boundIn (slotsOf (lineOf d))) & all (under n) (concat sitesIn (slotsOf (lineOf d)))
+line-names : (n : ℕ) {d : LineData} → Parts d → lowNames 4 n d ≡ all (under n) (concat usedIn (slotsOf (lineOf d)) ⧺ concat boundIn (slotsOf (lineOf d))) & all (under n) (concat sitesIn (slotsOf (lineOf d)))
 unfolding lowNames
 line-names n {d} P =
     let ss = slotsOf (lineOf d) in
@@ -200,7 +200,7 @@ unfolding inLimits rowLine lowNumbers imp all _&_
 q-limits q {d} P h =
     let ss = slotsOf (lineOf d) in
     rw (line-names siteLimit P, own-low lineLimit q h, P .boxes-are, low-listed boxLimit (d .sandbox), P .lines-are, all-union (under lineLimit) (listed (d .next)) (listed (d .other)), low-listed lineLimit (d .next), low-listed lineLimit (d .other))
-    (q-order (ltb q lineLimit) (lowNumber lineLimit (d .next)) (lowNumber lineLimit (d .other)) (lowNumber boxLimit (d .sandbox)) (all (under varLimit) (concat usedIn ss ∪ concat boundIn ss)) (all (under siteLimit) (concat sitesIn ss)))
+    (q-order (ltb q lineLimit) (lowNumber lineLimit (d .next)) (lowNumber lineLimit (d .other)) (lowNumber boxLimit (d .sandbox)) (all (under varLimit) (concat usedIn ss ⧺ concat boundIn ss)) (all (under siteLimit) (concat sitesIn ss)))
 
 none-low : (limit n : ℕ) → n ≡ noNumber → lowNumber limit n ≡ true
 unfolding lowNumber either

@@ -8,7 +8,7 @@ use native.Mathlib.Omega.{arith}
 use lib.Dec.{ltb}
 use lib.Seq.{take-nil}
 use borrow.Author.Tests.{leb-true, le-leb, lt-ltb, ne-eqb}
-use Rattle.sets.specs.Lists.{_&_, imp, all, only, _∪_}
+use Rattle.sets.specs.Lists.{_&_, imp, all, only, _⧺_}
 use Rattle.sets.proofs.Lists.{and-l, and-r, and-i, eqb-eq, all-turn, and-true, all-map}
 use Rattle.klaim.specs.declared.Slot.{Slot}
 use Rattle.klaim.specs.declared.Slot.the-variants.{Value}
@@ -80,9 +80,9 @@ values-are [] p = refl
 values-are (m ∷ ms) p = rw (value-slot m (and-l _ _ p), values-are ms (and-r _ _ p))
 
 pub record Parts (d : LineData) : Type 0 where
-  pub lines-are : children (lineOf d) ≡ listed (d .next) ∪ listed (d .other)
+  pub lines-are : children (lineOf d) ≡ listed (d .next) ⧺ listed (d .other)
   pub boxes-are : boxesOf (lineOf d) ≡ listed (d .sandbox)
-  pub slots-are : slotsOf (lineOf d) ≡ only (ltb 0 (d .target .kind)) (slot (d .target)) ∪ map slot (names (d .fields))
+  pub slots-are : slotsOf (lineOf d) ≡ only (ltb 0 (d .target .kind)) (slot (d .target)) ⧺ map slot (names (d .fields))
   pub target-low : d .target .kind ≤ 3
   pub fields-low : all (upTo 4) (names (d .fields)) ≡ true
 
@@ -108,7 +108,7 @@ shape h =
       fields-fits = and-r _ _ g;
     }
 
-parts-of : {a b c : Bool} {t f : ℕ} {d : LineData} → Shape a b c t f d → t ≤ 3 → f ≤ 4 → children (lineOf d) ≡ only a (d .next) ∪ only b (d .other) → boxesOf (lineOf d) ≡ only c (d .sandbox) → slotsOf (lineOf d) ≡ only (ltb 0 t) (Value (loc (d .target))) ∪ map slot (cond (ltb 0 f) (names (d .fields)) []) → Parts d
+parts-of : {a b c : Bool} {t f : ℕ} {d : LineData} → Shape a b c t f d → t ≤ 3 → f ≤ 4 → children (lineOf d) ≡ only a (d .next) ⧺ only b (d .other) → boxesOf (lineOf d) ≡ only c (d .sandbox) → slotsOf (lineOf d) ≡ only (ltb 0 t) (Value (loc (d .target))) ⧺ map slot (cond (ltb 0 f) (names (d .fields)) []) → Parts d
 parts-of {a} {b} {c} {t} {f} {d} S low few p q s = record {
   lines-are = rw (listed-is a (d .next) (S .next-is), listed-is b (d .other) (S .other-is)) p;
   boxes-are = rw (listed-is c (d .sandbox) (S .sandbox-is)) q;
@@ -120,37 +120,37 @@ parts-of {a} {b} {c} {t} {f} {d} S low few p q s = record {
 -- by the kind of the line
 module _ (d : LineData) (G : lineGood d ≡ true) where
   part-nil : d .kind ≡ 1 → Parts d
-  unfolding lineGood lineShape lineOf children boxesOf slotsOf only _∪_ _&_
+  unfolding lineGood lineShape lineOf children boxesOf slotsOf only _⧺_ _&_
   part-nil e = let S : Shape false false false 0 0 d = shape (rw e at G) in parts-of S (omega arith) (omega arith) (rw e) (rw e) (rw e)
 
   part-par : d .kind ≡ 2 → Parts d
-  unfolding lineGood lineShape lineOf children boxesOf slotsOf only _∪_ _&_
+  unfolding lineGood lineShape lineOf children boxesOf slotsOf only _⧺_ _&_
   part-par e = let S : Shape true true false 0 0 d = shape (rw e at G) in parts-of S (omega arith) (omega arith) (rw e) (rw e) (rw e)
 
   part-rep : d .kind ≡ 3 → Parts d
-  unfolding lineGood lineShape lineOf children boxesOf slotsOf only _∪_ _&_
+  unfolding lineGood lineShape lineOf children boxesOf slotsOf only _⧺_ _&_
   part-rep e = let S : Shape true false false 0 0 d = shape (rw e at G) in parts-of S (omega arith) (omega arith) (rw e) (rw e) (rw e)
 
   part-out : d .kind ≡ 4 → Parts d
-  unfolding lineGood lineShape lineOf children boxesOf slotsOf only _∪_ _&_
+  unfolding lineGood lineShape lineOf children boxesOf slotsOf only _⧺_ _&_
   part-out e =
       let S : Shape true false false 3 3 d = shape (rw e at G) in
       parts-of S (omega arith) (omega arith) (rw e) (rw e) (rw (e, values-are (names (d .fields)) (fields-fit 3 3 (d .fields) (S .fields-fits) (omega arith))))
 
   part-in : d .kind ≡ 5 → Parts d
-  unfolding lineGood lineShape lineOf getKind children boxesOf slotsOf only _∪_ _&_
+  unfolding lineGood lineShape lineOf getKind children boxesOf slotsOf only _⧺_ _&_
   part-in e = let S : Shape true false false 3 4 d = shape (rw e at G) in parts-of S (omega arith) (omega arith) (rw e) (rw e) (rw e)
 
   part-read : d .kind ≡ 6 → Parts d
-  unfolding lineGood lineShape lineOf getKind children boxesOf slotsOf only _∪_ _&_
+  unfolding lineGood lineShape lineOf getKind children boxesOf slotsOf only _⧺_ _&_
   part-read e = let S : Shape true false false 3 4 d = shape (rw e at G) in parts-of S (omega arith) (omega arith) (rw e) (rw e) (rw e)
 
   part-eval : d .kind ≡ 7 → Parts d
-  unfolding lineGood lineShape lineOf children boxesOf slotsOf only _∪_ _&_
+  unfolding lineGood lineShape lineOf children boxesOf slotsOf only _⧺_ _&_
   part-eval e = let S : Shape true true true 3 0 d = shape (rw e at G) in parts-of S (omega arith) (omega arith) (rw e) (rw e) (rw e)
 
   part-accept : d .kind ≡ 8 → Parts d
-  unfolding lineGood lineShape lineOf children boxesOf slotsOf only _∪_ _&_
+  unfolding lineGood lineShape lineOf children boxesOf slotsOf only _⧺_ _&_
   part-accept e = let S : Shape true false true 0 0 d = shape (rw e at G) in parts-of S (omega arith) (omega arith) (rw e) (rw e) (rw e)
 
   -- a line of any kind

@@ -6,7 +6,7 @@ use mathlib.Core.List.{List, [], _∷_}
 use Prim.Native.Nat.{ℕ}
 use lib.Dec.{leb, ltb}
 use borrow.Author.Tests.{leb-true, le-ltb, lt-ltb}
-use Rattle.sets.specs.Lists.{_&_, either, imp, all, any, only, concat, _∪_}
+use Rattle.sets.specs.Lists.{_&_, either, imp, all, any, only, concat, _⧺_}
 use Rattle.sets.proofs.Lists.{and-l, and-r, nleb-lt, and-true, and-assoc}
 
 -- the tests of two names, sort by sort
@@ -18,8 +18,8 @@ cross true false false d = refl
 cross false b c d = refl
 
 module _ {A : Type 0} where
-  pub all-union : (f : A → Bool) (xs ys : List A) → all f (xs ∪ ys) ≡ all f xs & all f ys
-  unfolding all _∪_ _&_
+  pub all-union : (f : A → Bool) (xs ys : List A) → all f (xs ⧺ ys) ≡ all f xs & all f ys
+  unfolding all _⧺_ _&_
   all-union f [] ys = refl
   all-union f (x ∷ xs) ys = ap (λ (b : Bool). f x & b) (all-union f xs ys) ∙ sym (and-assoc (f x) (all f xs) (all f ys))
 

@@ -10,7 +10,7 @@ use native.Mathlib.Omega.{arith}
 use lib.ListN.{length, getD, set, length-set}
 use lib.Seq.{getD-set-same, getD-set-other}
 use lib.Dec.{eqb}
-use Rattle.sets.specs.Lists.{Elem, first, later, all, concat, _∪_}
+use Rattle.sets.specs.Lists.{Elem, first, later, all, concat, _⧺_}
 use Rattle.sets.specs.Bits.{sites}
 use Rattle.sets.proofs.Lists.{ltb-lt, eq-eqb, eqb-eq, and-l, and-r, in-none, getD-same}
 use Rattle.sets.proofs.Bits.{has-self, sites-in}
@@ -80,12 +80,12 @@ abbrev pub BindsLow : ℕ → List Slot → Type 0
 BindsLow n ss = allBelow n (concat boundIn ss) ≡ true
 
 binds-tail : (n : ℕ) (s : Slot) (ss : List Slot) → BindsLow n (s ∷ ss) → BindsLow n ss
-unfolding allBelow concat boundIn all _∪_
+unfolding allBelow concat boundIn all _⧺_
 binds-tail n (Value x) ss t = t
 binds-tail n (Bind u) ss t = and-r _ _ t
 
 binds-head : (n : ℕ) (u : Var) (ss : List Slot) → BindsLow n (Bind u ∷ ss) → u .0 < n
-unfolding allBelow concat boundIn all _∪_
+unfolding allBelow concat boundIn all _⧺_
 binds-head n u ss t = ltb-lt _ _ (and-l _ _ t)
 
 pub bind-long : (ss : List Slot) (vs : List ℕ) (e : Bindings) → length (bindAll ss vs e) ≡ length e
@@ -117,7 +117,7 @@ module _ (n : ℕ) where
 
   -- what the template binds is bound
   pub bind-new : (f : Loc → ℕ → Bool) (ss : List Slot) (vs : List ℕ) (e : Bindings) → length e ≡ n → BindsLow n ss → matches f ss vs ≡ true → (w : ℕ) → Elem w (concat boundIn ss) → BoundTo (bindAll ss vs e) w
-  unfolding bindAll matches concat boundIn _∪_
+  unfolding bindAll matches concat boundIn _⧺_
   bind-new f [] vs e l b m w i = absurd (in-none i)
   bind-new f (s ∷ ss) [] e l b m w i = absurd (false≢true m)
   bind-new f (Value x ∷ ss) (v ∷ vs) e l b m w i = bind-new f ss vs e l (binds-tail n (Value x) ss b) (and-r _ _ m) w i

@@ -7,7 +7,7 @@ use Prim.Native.Nat.{ℕ, zero, suc, _*_, _≤_}
 use native.Mathlib.Omega.{arith}
 use lib.Dec.{eqb}
 use lib.ListN.{length, length-map}
-use Rattle.sets.specs.Lists.{Elem, first, later, All, more, _&_, any, only, keep, concat, same, among, below, tableFrom, table, _∪_}
+use Rattle.sets.specs.Lists.{Elem, first, later, All, more, _&_, any, only, keep, concat, same, among, below, tableFrom, table, _⧺_}
 use Rattle.sets.specs.Bits.{mem, sites}
 use Rattle.sets.proofs.Lists.{and-l, and-r, and-i, in-none, in-map, in-concat, in-keep, keep-out, map-out, all-at, all-i, any-in, in-any, among-in, any-i, same-eq, same-refl, not-yes, eq-eqb, eqb-eq, iff, length-union}
 use Rattle.sets.proofs.Counting.{Unlike, none, within-short, within-full, unlike-map, unlike-concat, concat-out}
@@ -99,11 +99,11 @@ distinct-unlike (t ∷ ts) d =
     Counting.more (λ i. false≢true (sym (not-yes _ (and-l _ _ d)) ∙ in-any same same-refl i)) (distinct-unlike ts (and-r _ _ d))
 
 unlike-keep : {A : Type 0} (f : A → Bool) {xs : List A} → Unlike xs → Unlike (keep f xs)
-unfolding keep only _∪_
+unfolding keep only _⧺_
 unlike-keep f none = none
 unlike-keep {A} f (Counting.more {x = x} {xs = xs} new u) = go (f x) (unlike-keep f u)
   where
-    go : (b : Bool) → Unlike (keep f xs) → Unlike (only b x ∪ keep f xs)
+    go : (b : Bool) → Unlike (keep f xs) → Unlike (only b x ⧺ keep f xs)
     go true v = Counting.more (λ i. new (keep-out f xs i .0)) v
     go false v = v
 

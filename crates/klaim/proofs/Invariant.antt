@@ -9,7 +9,7 @@ use Prim.Native.Nat.{ℕ, zero, suc, _+_, _<_, _≤_}
 use native.Mathlib.Omega.{arith}
 use lib.Dec.{leb, ltb}
 use lib.ListN.{length, getElem?, length-append, length-map, length-replicate, List·getD-append}
-use Rattle.sets.specs.Lists.{Elem, first, later, All, done, more, _&_, either, all, empty, splice, concat, among, _∪_}
+use Rattle.sets.specs.Lists.{Elem, first, later, All, done, more, _&_, either, all, empty, splice, concat, among, _⧺_}
 use Rattle.sets.specs.Bits.{inBit, readBit}
 use Rattle.sets.proofs.Lists.{and-l, and-r, in-none, all-at, all-i, all-none, all-turn, all-snoc, all-append, all-map, all-splice, all-get, among-in, empty-none, All-get, All-append, All-splice, All-turn, All-in, All-concat, ltb-lt, lt-ltb, leb-le, in-concat, in-right, in-map, cond-at, length-union}
 use Rattle.sets.proofs.Tables.{length-table}
@@ -92,7 +92,7 @@ fits-at n (l ∷ ls) (suc q) t h = fits-at n ls q (and-r _ _ t) (omega arith)
 all-part : {A : Type 0} (f : ℕ → Bool) (g : A → List ℕ) {xs : List A} {x : A} → all f (concat g xs) ≡ true → Elem x xs → all f (g x) ≡ true
 all-part f g {x = x} t i = all-i f (g x) (λ y j. all-at f (in-concat g i j) t)
 
-all-right : (f : ℕ → Bool) (xs ys : List ℕ) → all f (xs ∪ ys) ≡ true → all f ys ≡ true
+all-right : (f : ℕ → Bool) (xs ys : List ℕ) → all f (xs ⧺ ys) ≡ true → all f ys ≡ true
 all-right f xs ys t = all-i f ys (λ y j. all-at f (in-right xs j) t)
 
 no-binder : {u : ℕ} (ss : List Slot) → empty ss ≡ true → Elem u (concat boundIn ss) → ⊥
@@ -151,7 +151,7 @@ module _ (st : State) (i : Invariant st) (th : Thread) (o : Standing (st .net .s
 
     -- `in` and `read`: the next line, with the new bindings
     get-stands : (a : ℕ) (g : Loc) (ss : List Slot) (t : List ℕ) → children l ≡ a ∷ [] → template l ≡ ss → slotsOf l ≡ Value g ∷ ss → all (λ v. ltb v n) t ≡ true → agrees th g ss t ≡ true → Standing n (st .lines) (record { site = th .site; policy = th .policy; line = a; bindings = bindAll (Value g ∷ ss) t (th .bindings) })
-    unfolding agrees concat boundIn _∪_
+    unfolding agrees concat boundIn _⧺_
     get-stands a g ss t c m s low ok = record {
       placed = o .placed;
       policy-long = o .policy-long;

@@ -9,7 +9,7 @@ use native.Mathlib.Omega.{arith}
 use native.Mathlib.Nat.{add-zero}
 use lib.Dec.{ltb}
 use lib.ListN.{length, getD, List·getD-append, length-append, length-map}
-use Rattle.sets.specs.Lists.{Elem, first, later, _&_, all, concat, among, _∪_}
+use Rattle.sets.specs.Lists.{Elem, first, later, _&_, all, concat, among, _⧺_}
 use Rattle.sets.specs.Bits.{inBit, readBit}
 use Rattle.sets.proofs.Lists.{in-none, in-left, in-right, in-keep, in-concat, among-in, split, and-l, and-r, and-i, all-at, all-turn, all-map, ltb-lt, lt-ltb}
 use Rattle.klaim.specs.declared.Loc.{Loc}
@@ -173,11 +173,11 @@ trees-move d b (l ∷ ls) =
 free-renumber : (d : ℕ) (t : Tree) → free (renumber d t) ≡ free t
 unfolding renumber free
 free-renumber d nilT = refl
-free-renumber d (parT a b) = ap₂ _∪_ (free-renumber d a) (free-renumber d b)
+free-renumber d (parT a b) = ap₂ _⧺_ (free-renumber d a) (free-renumber d b)
 free-renumber d (repT a) = free-renumber d a
-free-renumber d (outT q g fs a) = ap (λ (x : List ℕ). concat usedIn (map Value (g ∷ fs)) ∪ x) (free-renumber d a)
-free-renumber d (getT q r g fs a) = ap (λ (x : List ℕ). concat usedIn (Value g ∷ fs) ∪ without (concat boundIn fs) x) (free-renumber d a)
-free-renumber d (evalT q g k b a) = ap₂ (λ (x y : List ℕ). usedIn (Value g) ∪ (x ∪ y)) (free-renumber d b) (free-renumber d a)
+free-renumber d (outT q g fs a) = ap (λ (x : List ℕ). concat usedIn (map Value (g ∷ fs)) ⧺ x) (free-renumber d a)
+free-renumber d (getT q r g fs a) = ap (λ (x : List ℕ). concat usedIn (Value g ∷ fs) ⧺ without (concat boundIn fs) x) (free-renumber d a)
+free-renumber d (evalT q g k b a) = ap₂ (λ (x y : List ℕ). usedIn (Value g) ⧺ (x ⧺ y)) (free-renumber d b) (free-renumber d a)
 free-renumber d (acceptT k a) = free-renumber d a
 
 -- lines put behind leave the process of a line as it is
@@ -268,7 +268,7 @@ get-free : (q r : ℕ) (g : Loc) (fs : List Slot) (a : Tree) {u : ℕ} → Elem 
 unfolding free without
 get-free q r g fs a {u} h = go (split (among (concat boundIn fs) u))
   where
-    go : ((among (concat boundIn fs) u ≡ true) ⊎ (not (among (concat boundIn fs) u) ≡ true)) → Elem u (concat usedIn (Value g ∷ fs) ∪ without (concat boundIn fs) (free a)) ⊎ Elem u (concat boundIn fs)
+    go : ((among (concat boundIn fs) u ≡ true) ⊎ (not (among (concat boundIn fs) u) ≡ true)) → Elem u (concat usedIn (Value g ∷ fs) ⧺ without (concat boundIn fs) (free a)) ⊎ Elem u (concat boundIn fs)
     go (inl t) = inr (among-in _ u t)
     go (inr t) = inl (in-right (concat usedIn (Value g ∷ fs)) (in-keep _ h t))
 

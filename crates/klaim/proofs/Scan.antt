@@ -8,7 +8,7 @@ use Prim.Native.Nat.{ℕ, suc, _+_, _<_, _≤_}
 use native.Mathlib.Omega.{arith}
 use lib.Dec.{eqb, leb, ltb}
 use lib.ListN.{length}
-use Rattle.sets.specs.Lists.{Elem, first, later, All, done, more, _&_, any, only, keep, empty, same, _∪_}
+use Rattle.sets.specs.Lists.{Elem, first, later, All, done, more, _&_, any, only, keep, empty, same, _⧺_}
 use Rattle.sets.proofs.Lists.{and-l, and-r, imp-e, not-no, neither-l, neither-r, cond-at, eqb-eq, eq-eqb, leb-le, nleb-lt, lt-ltb, all-at, all-i, ltb-lt, none-all, length-keep, All-append, All-turn, All-in, and-i, not-yes, any-none, any-snoc, same-eq, same-refl, map-out, keep-out, keep-snoc, map-append}
 use Rattle.klaim.specs.Limits.{siteLimit}
 use Rattle.klaim.specs.Process.{template, clash}
@@ -41,7 +41,7 @@ module _ {A B : Type 0} where
 -- a Q row's sorts are those of its line; an A row has sites alone
 pub record Shaped (r : Row) : Type 0 where
   pub line-row : r .group ≡ groupQ → r ≡ rowLine (nth (r .lines) 0) (r .process)
-  pub stand-row : r .group ≡ groupA → key r ≡ groupA ∷ (r .sites ∪ [])
+  pub stand-row : r .group ≡ groupA → key r ≡ groupA ∷ (r .sites ⧺ [])
 
 not-group : (g h : ℕ) {B : Type 0} → eqb g h ≡ false → g ≡ h → B
 not-group g h t e = absurd (false≢true (sym t ∙ ap (λ (x : ℕ). eqb g x) (sym e) ∙ eq-eqb g))
@@ -52,7 +52,7 @@ other {r} t s = record { line-row = not-group _ _ t; stand-row = not-group _ _ s
 
 -- each form gives such rows
 form-shaped : (fs : List (List ℕ)) → Holds Shaped (rowForm fs)
-unfolding rowForm rowN rowPair rowD rowTuple rowL rowB rowLine rowQ key _∪_
+unfolding rowForm rowN rowPair rowD rowTuple rowL rowB rowLine rowQ key _⧺_
 form-shaped fs =
     otherwise-holds (given-holds _ (given-holds _ (then-holds _ λ n. holds (other refl refl))))
     (otherwise-holds (given-holds _ (pair groupR refl refl))
@@ -68,7 +68,7 @@ form-shaped fs =
     pair g e h = given-holds _ (then-holds _ λ s. then-holds _ λ t. then-holds _ λ r. holds (other e h))
 
     tuple : (g : ℕ) → eqb g groupQ ≡ false → Holds Shaped (rowTuple g fs)
-    tuple g e = then-holds _ λ s. then-holds _ λ ts. holds (record { line-row = not-group _ _ e; stand-row = λ h. ap (λ (x : ℕ). x ∷ (s ∷ (ts ∪ []))) h })
+    tuple g e = then-holds _ λ s. then-holds _ λ ts. holds (record { line-row = not-group _ _ e; stand-row = λ h. ap (λ (x : ℕ). x ∷ (s ∷ (ts ⧺ []))) h })
 
 rows-shaped : (ps : List (List ℕ)) → All (Holds Shaped) (rowsFrom ps)
 unfolding rowsFrom rowOf
@@ -157,10 +157,10 @@ rows-ok t bytes e = rows-give t (λ rows. All (RowOk (siteCount t rows)) rows) k
 
 -- a group that is full at m has at most m rows
 pub rows-few : (t : Text) (g m : ℕ) → ((k : ℕ) → full t g k ≡ false → k < m) → (bytes : List ℕ) {rows : List Row} → readRows t bytes ≡ gives rows → length (ofGroup g rows) ≤ m
-unfolding ofGroup keep _∪_ only
+unfolding ofGroup keep _⧺_ only
 rows-few t g m h bytes e = rows-give t (λ rows. length (ofGroup g rows) ≤ m) keeps (omega arith) bytes e
   where
-    go : (above : List Row) (r : Row) (b : Bool) → eqb (r .group) g ≡ b → length (ofGroup g above) ≤ m → Fine t above r → length (ofGroup g above) + length (only b r ∪ []) ≤ m
+    go : (above : List Row) (r : Row) (b : Bool) → eqb (r .group) g ≡ b → length (ofGroup g above) ≤ m → Fine t above r → length (ofGroup g above) + length (only b r ⧺ []) ≤ m
     go above r true e p f = omega (arith, h _ (subst (λ (x : ℕ). full t x (length (ofGroup x above)) ≡ false) (eqb-eq e) (f .room)))
     go above r false e p f = omega arith
 
@@ -189,7 +189,7 @@ fresh-sites t above r h f g s i = go (map-out (λ b. b .sites) _ i)
     alike : (b : Row) → Elem b above → b .group ≡ groupA → s ≡ b .sites → (x : Bool) → same s (r .sites) ≡ x → x ≡ false
     alike b j q p false e = refl
     alike b j q p true e =
-        let k : key b ≡ key r = All-in h j .stand-row q ∙ ap (λ (ss : List ℕ). groupA ∷ (ss ∪ [])) (sym p ∙ same-eq s (r .sites) e) ∙ sym (f .shaped .stand-row g) in
+        let k : key b ≡ key r = All-in h j .stand-row q ∙ ap (λ (ss : List ℕ). groupA ∷ (ss ⧺ [])) (sym p ∙ same-eq s (r .sites) e) ∙ sym (f .shaped .stand-row g) in
         sym (subst (λ (ks : List ℕ). same ks (key r) ≡ true) (sym k) (same-refl (key r))) ∙ any-none (λ b. same (key b) (key r)) unlike j
 
     go : ((b : Row) × Elem b (keep (λ b. eqb (b .group) groupA) above) × (s ≡ b .sites)) → same s (r .sites) ≡ false

@@ -4,10 +4,8 @@ use mathlib.Core.Bool.{Bool, true, false, not, cond}
 use mathlib.Core.List.{List, [], _∷_, map}
 use mathlib.Core.Option.{Option, none, some, Option·map}
 use Prim.Native.Nat.{ℕ, suc, min, _^_}
-use Rattle.sets.specs.Lists.{_&_, imp, all, any, only, concat, same, below, _∪_}
+use Rattle.sets.specs.Lists.{_&_, imp, all, any, only, concat, same, below, _⧺_}
 use Rattle.sets.specs.Bits.{mem, sites, within}
-use Rattle.klaim.specs.declared.Site.{Site}
-use Rattle.klaim.specs.declared.Var.{Var}
 use Rattle.klaim.specs.declared.Loc.{Loc}
 use Rattle.klaim.specs.declared.Loc.the-variants.{At, Here, Use}
 use Rattle.klaim.specs.declared.Slot.{Slot}
@@ -26,7 +24,7 @@ reach E P (Use u) = may E (u .0)
 unfoldable pub placeSet : ℕ → ℕ
 placeSet l = 2 ^ l
 
--- a template and a row: as many fields, and each non-binding field passes the test on the row's field
+-- "each non-binding field": the test of one field on the row's field
 unfoldable pub slotMatch : (Loc → ℕ → Bool) → Slot → ℕ → Bool
 slotMatch f (Value x) v = f x v
 slotMatch f (Bind u) v = true
@@ -48,7 +46,7 @@ unfoldable pub firstNot : {A : Type 0} → (A → Bool) → List A → Option �
 firstNot f [] = none
 firstNot f (x ∷ xs) = cond (f x) (Option·map suc (firstNot f xs)) (some 0)
 
--- the least of a list
+-- the lesser of a number and what there is beside it
 unfoldable pub lesser : ℕ → Option ℕ → ℕ
 lesser x none = x
 lesser x (some y) = min x y
@@ -96,11 +94,11 @@ module _ (N : Net) (E : Estimate) where
   -- "A child has its parent's place set, except an eval body, whose place set is the reach of the target."
   unfoldable pub broken : ℕ → Tree → List ℕ
   broken P nilT = []
-  broken P (parT a b) = broken P a ∪ broken P b
+  broken P (parT a b) = broken P a ⧺ broken P b
   broken P (repT a) = broken P a
-  broken P (outT q g fs a) = only (not (outRule E P g fs)) q ∪ broken P a
-  broken P (getT q r g ss a) = only (not (getRule E P g ss)) q ∪ broken P a
-  broken P (evalT q g k b a) = only (not (evalRule P g k)) q ∪ (broken (reach E P g) b ∪ broken P a)
+  broken P (outT q g fs a) = only (not (outRule E P g fs)) q ⧺ broken P a
+  broken P (getT q r g ss a) = only (not (getRule E P g ss)) q ⧺ broken P a
+  broken P (evalT q g k b a) = only (not (evalRule P g k)) q ⧺ (broken (reach E P g) b ⧺ broken P a)
   broken P (acceptT k a) = broken P a
 
   -- "T row: its tuple has an A row."

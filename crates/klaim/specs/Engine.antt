@@ -8,8 +8,6 @@ use lib.Dec.{eqb, leb, ltb}
 use lib.ListN.{length, getD, getElem?, set}
 use Rattle.sets.specs.Lists.{_&_, either, any, keep, splice, below, among}
 use Rattle.sets.specs.Bits.{outBit, inBit, readBit, evalBit, acceptBit, has}
-use Rattle.klaim.specs.declared.Site.{Site}
-use Rattle.klaim.specs.declared.Var.{Var}
 use Rattle.klaim.specs.declared.Loc.{Loc}
 use Rattle.klaim.specs.declared.Loc.the-variants.{At, Here, Use}
 use Rattle.klaim.specs.declared.Slot.{Slot}

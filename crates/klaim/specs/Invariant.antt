@@ -3,11 +3,11 @@
 use mathlib.Core.Path.{_≡_}
 use mathlib.Core.Bool.{Bool, true, false, not}
 use mathlib.Core.List.{List, [], _∷_}
-use mathlib.Core.Option.{Option, none, some}
+use mathlib.Core.Option.{none, some}
 use Prim.Native.Nat.{ℕ, _<_, _≤_}
 use lib.Dec.{ltb}
 use lib.ListN.{length, getD}
-use Rattle.sets.specs.Lists.{Elem, All, _&_, all, any, concat, empty, same, _∪_}
+use Rattle.sets.specs.Lists.{Elem, All, _&_, all, any, concat, empty, same, _⧺_}
 use Rattle.klaim.specs.Limits.{siteLimit, varLimit, boxLimit, threadLimit, tupleLimit, lineLimit}
 use Rattle.klaim.specs.Process.{Line, lineAt, boxesOf, slotsOf, sitesIn, usedIn, boundIn, ordered, tree, free}
 use Rattle.klaim.specs.State.{Thread, State, isNil}
@@ -20,7 +20,7 @@ allBelow n xs = all (λ x. ltb x n) xs
 unfoldable pub lineFits : ℕ → Line → Bool
 lineFits n l =
     allBelow n (concat sitesIn (slotsOf l))
-    & allBelow varLimit (concat usedIn (slotsOf l) ∪ concat boundIn (slotsOf l))
+    & allBelow varLimit (concat usedIn (slotsOf l) ⧺ concat boundIn (slotsOf l))
     & allBelow boxLimit (boxesOf l)
 
 -- what 3 leaves of A rows: no two are equal

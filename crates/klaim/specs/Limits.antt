@@ -2,11 +2,11 @@
 -- Assumes nothing.
 use Prim.Native.Nat.{ℕ}
 
--- "Sites are s0 to s31, variables u0 to u31"; "sandbox k (0 to 31)"
+-- "Sites are s0 to s31"
 abbrev pub siteLimit : ℕ
 siteLimit = 32
 
--- variables u0 to u31
+-- "variables u0 to u31"
 abbrev pub varLimit : ℕ
 varLimit = 32
 

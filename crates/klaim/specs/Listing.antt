@@ -3,15 +3,15 @@
 use mathlib.Core.Bool.{Bool, true, false, not, cond}
 use mathlib.Core.List.{List, [], _∷_}
 use Prim.Native.Nat.{ℕ, zero, suc, _+_, _*_, _/_, _%_}
-use Prim.Native.Char.{Char, code}
+use Prim.Native.Char.{code}
 use Prim.Native.String.{String}
 use lib.Dec.{eqb, ltb}
 use lib.ListN.{length, take, drop, getD}
-use Rattle.sets.specs.Lists.{_&_, all, keep, concat, below, same, sum, _∪_}
-use Rattle.sets.specs.Bits.{outBit, inBit, readBit, evalBit, acceptBit, everyBit, has, join, meet, joins, grant, size}
+use Rattle.sets.specs.Lists.{_&_, all, keep, concat, below, same, sum, _⧺_}
+use Rattle.sets.specs.Bits.{outBit, inBit, readBit, evalBit, everyBit, has, join, meet, joins, grant, size}
 use Rattle.klaim.specs.Limits.{siteLimit, reportSize, inputLimit}
 use Rattle.klaim.specs.Rows.{text, comma, newline}
-use Rattle.klaim.specs.Net.{Root, Net, Estimate, home, holds}
+use Rattle.klaim.specs.Net.{Net, home, holds}
 use Rattle.klaim.specs.Reader.{Answer, refused, gives, World, readBoth}
 use Rattle.klaim.specs.Analysis.{Verdict, accepted, brokenT, brokenQ, verdict, placeSet, process}
 use Rattle.klaim.specs.Report.{uses, report}
@@ -19,7 +19,7 @@ use Rattle.klaim.specs.Report.{uses, report}
 -- a number in decimal; k bounds how many digits follow the first
 unfoldable pub digits : ℕ → ℕ → List ℕ
 digits zero n = (code "0" + n % 10) ∷ []
-digits (suc k) n = elim (ltb n 10) [ true ↦ (code "0" + n) ∷ [] | false ↦ digits k (n / 10) ∪ ((code "0" + n % 10) ∷ []) ]
+digits (suc k) n = elim (ltb n 10) [ true ↦ (code "0" + n) ∷ [] | false ↦ digits k (n / 10) ⧺ ((code "0" + n % 10) ∷ []) ]
 
 -- a number in decimal
 unfoldable pub numeral : ℕ → List ℕ
@@ -40,11 +40,11 @@ siteName s = code "s" ∷ numeral s
 -- fields parted by commas, and the byte 0A
 unfoldable pub tail : List (List ℕ) → List ℕ
 tail [] = newline ∷ []
-tail (f ∷ fs) = comma ∷ (f ∪ tail fs)
+tail (f ∷ fs) = comma ∷ (f ⧺ tail fs)
 
 -- a row of the output: its word and its fields
 unfoldable pub row : String → List (List ℕ) → List ℕ
-row word fs = text word ∪ tail fs
+row word fs = text word ⧺ tail fs
 
 -- "the number of rights reported"
 unfoldable pub reported : List ℕ → ℕ
@@ -87,7 +87,7 @@ rowU w s =
 unfoldable pub listVerdict : World → Verdict → List ℕ
 listVerdict w accepted =
     let bytes = report (w .net) (w .estimate) in
-    row "accepted" (numeral (reported bytes) ∷ []) ∪ (rowsV bytes ∪ concat (rowU w) (below (w .net .size)))
+    row "accepted" (numeral (reported bytes) ∷ []) ⧺ (rowsV bytes ⧺ concat (rowU w) (below (w .net .size)))
 listVerdict w (brokenT i) = row "broken" (text "T" ∷ numeral i ∷ [])
 listVerdict w (brokenQ q) = row "broken" (text "Q" ∷ numeral q ∷ [])
 

@@ -1,6 +1,6 @@
 -- A net and an estimate as read: T, L, Q and A rows as lists in order; R, D, B and E rows as tables.
 -- Assumes nothing.
-use mathlib.Core.Bool.{Bool, cond}
+use mathlib.Core.Bool.{cond}
 use mathlib.Core.List.{List}
 use Prim.Native.Nat.{ℕ, _+_, _*_}
 use lib.Dec.{eqb}
@@ -32,7 +32,7 @@ pub record Estimate : Type 0 where
 unfoldable pub home : Net → ℕ → ℕ → ℕ
 home N s t = getD (N .homes) (32 * s + t) 0
 
--- sandbox k: d(t), and d(self)
+-- "sandbox k (0 to 31) towards t": d(t)
 unfoldable pub box : Net → ℕ → ℕ → ℕ
 box N k t = getD (N .boxes) (33 * k + t) 0
 

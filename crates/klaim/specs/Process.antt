@@ -1,14 +1,12 @@
 -- Process lines, and the process that a line stands for.
 -- Assumes nothing.
-use mathlib.Core.Bool.{Bool, true, false, not}
+use mathlib.Core.Bool.{Bool, true, not}
 use mathlib.Core.List.{List, [], _∷_, map}
-use Prim.Native.Nat.{ℕ, zero, suc, _+_, _-_}
+use Prim.Native.Nat.{ℕ, suc, _+_, _-_}
 use lib.Dec.{ltb}
 use lib.ListN.{length, getD}
-use Rattle.sets.specs.Lists.{_&_, all, any, keep, concat, count, among, _∪_}
+use Rattle.sets.specs.Lists.{_&_, all, any, keep, concat, count, among, _⧺_}
 use Rattle.sets.specs.Bits.{inBit, readBit}
-use Rattle.klaim.specs.declared.Site.{Site}
-use Rattle.klaim.specs.declared.Var.{Var}
 use Rattle.klaim.specs.declared.Loc.{Loc}
 use Rattle.klaim.specs.declared.Loc.the-variants.{At, Here, Use}
 use Rattle.klaim.specs.declared.Slot.{Slot}
@@ -74,7 +72,7 @@ template (Read a g fs) = fs
 template (Eval a g b k) = []
 template (Accept a k) = []
 
--- the sites that stand in a field, the variables used there, and those that it binds
+-- the sites that stand in a field
 unfoldable pub sitesIn : Slot → List ℕ
 sitesIn (Value (At s)) = s .0 ∷ []
 sitesIn (Value Here) = []
@@ -95,7 +93,7 @@ boundIn (Bind u) = u .0 ∷ []
 
 -- 7: "`!u` twice, or with u in one template"
 unfoldable pub clash : List Slot → Bool
-clash fs = any (λ u. ltb 1 (count u (concat usedIn fs ∪ concat boundIn fs))) (concat boundIn fs)
+clash fs = any (λ u. ltb 1 (count u (concat usedIn fs ⧺ concat boundIn fs))) (concat boundIn fs)
 
 -- the process that a line stands for; where a rule is to hold, with the line's number; `getT` is in or read, by its right
 pub data Tree : Type 0 where
@@ -143,11 +141,11 @@ without us xs = keep (λ x. not (among us x)) xs
 -- the free variables of a process: "`!u`, which binds u in a"
 unfoldable pub free : Tree → List ℕ
 free nilT = []
-free (parT a b) = free a ∪ free b
+free (parT a b) = free a ⧺ free b
 free (repT a) = free a
-free (outT q g fs a) = concat usedIn (map Value (g ∷ fs)) ∪ free a
-free (getT q r g fs a) = concat usedIn (Value g ∷ fs) ∪ without (concat boundIn fs) (free a)
-free (evalT q g k b a) = usedIn (Value g) ∪ (free b ∪ free a)
+free (outT q g fs a) = concat usedIn (map Value (g ∷ fs)) ⧺ free a
+free (getT q r g fs a) = concat usedIn (Value g ∷ fs) ⧺ without (concat boundIn fs) (free a)
+free (evalT q g k b a) = usedIn (Value g) ⧺ (free b ⧺ free a)
 free (acceptT k a) = free a
 
 -- a line numbered from 0, moved behind d present lines

@@ -1,12 +1,12 @@
--- Answer a net, an estimate and an arrival: what the rows say, or the number and the row of the refusal.
+-- A net, an estimate and an arrival read from their bytes: what the rows say, or the number and the row of the refusal.
 -- Assumes nothing.
-use mathlib.Core.Bool.{Bool, true, false, not, cond}
+use mathlib.Core.Bool.{Bool, true, not, cond}
 use mathlib.Core.List.{List, [], _∷_, _++_, map}
 use mathlib.Core.Option.{Option, none, some}
 use Prim.Native.Nat.{ℕ, suc, _+_, _*_, _^_}
 use lib.Dec.{eqb, leb, ltb}
 use lib.ListN.{length, getD}
-use Rattle.sets.specs.Lists.{_&_, either, imp, all, any, keep, empty, table, below, same, count, concat, _∪_}
+use Rattle.sets.specs.Lists.{_&_, either, imp, all, any, keep, empty, table, below, same, count, concat, _⧺_}
 use Rattle.sets.specs.Bits.{grant, joins}
 use Rattle.klaim.specs.Limits.{siteLimit, varLimit, boxLimit, tupleLimit, threadLimit, lineLimit}
 use Rattle.klaim.specs.Process.{Line, children, template, clash, ordered, tree, free}
@@ -79,7 +79,7 @@ inOrder above r = all (λ b. leb (b .group) (r .group)) above
 -- 3: "R, D and E rows repeat if their first two fields do, T, L, B and A rows if all do, Q rows never":
 -- all but the rights
 unfoldable pub key : Row → List ℕ
-key r = r .group ∷ (r .boxes ∪ (r .vars ∪ (r .sites ∪ r .lines)))
+key r = r .group ∷ (r .boxes ⧺ (r .vars ⧺ (r .sites ⧺ r .lines)))
 
 -- 3: "pair or row repeated"
 unfoldable pub repeated : List Row → Row → Bool
@@ -134,7 +134,7 @@ inTurn numbers ls roots = same numbers (below (length ls)) & ordered ls & all (�
 
 -- 6: "line named twice or never": "Each line is named exactly once, by an L row or one parent"
 unfoldable pub namedOnce : List Line → List ℕ → Bool
-namedOnce ls roots = all (λ q. eqb (count q (roots ∪ concat children ls)) 1) (below (length ls))
+namedOnce ls roots = all (λ q. eqb (count q (roots ⧺ concat children ls)) 1) (below (length ls))
 
 -- 8: "root with a free variable"
 unfoldable pub rootsClosed : List Line → List ℕ → Bool
@@ -156,7 +156,7 @@ nth xs i = getD xs i 0
 unfoldable pub gather : ℕ → (Row → ℕ) → (Row → ℕ) → List Row → List ℕ
 gather n place value rows = table n (λ i. joins (λ r. grant (eqb (place r) i) (value r)) rows)
 
--- byte 32 × s + t of a row with two sites; byte 33 × k + t of a D row, which names no site for `self`
+-- byte 32 × s + t of a row with two sites
 unfoldable pub pairPlace : Row → ℕ
 pairPlace r = 32 * nth (r .sites) 0 + nth (r .sites) 1
 
@@ -168,7 +168,7 @@ boxPlace r = 33 * nth (r .boxes) 0 + getD (r .sites) 0 32
 unfoldable pub rootOf : Row → Root
 rootOf r = record { site = nth (r .sites) 0; line = nth (r .lines) 0 }
 
--- Q rows: their numbers, and their lines
+-- the numbers of the Q rows, in their order
 unfoldable pub numbersOf : List Row → List ℕ
 numbersOf rows = map (λ r. nth (r .lines) 0) (ofGroup groupQ rows)
 

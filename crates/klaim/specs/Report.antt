@@ -1,7 +1,7 @@
 -- The use map, the report and the door.
 -- Assumes nothing.
-use mathlib.Core.Bool.{Bool, true, false}
-use mathlib.Core.List.{List, [], _∷_}
+use mathlib.Core.Bool.{Bool}
+use mathlib.Core.List.{List}
 use Prim.Native.Nat.{ℕ, _/_, _%_}
 use lib.Dec.{eqb}
 use Rattle.sets.specs.Lists.{_&_, all, empty, table, below}

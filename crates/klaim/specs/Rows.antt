@@ -1,17 +1,15 @@
 -- The form of a row. A row that is not of its form gives nothing, and is refused with 1.
 -- Assumes nothing.
-use mathlib.Core.Bool.{Bool, true, false, not, cond}
-use mathlib.Core.List.{List, [], _∷_, map}
+use mathlib.Core.Bool.{Bool, true, false, not}
+use mathlib.Core.List.{List, [], _∷_}
 use mathlib.Core.Option.{Option, none, some}
 use Prim.Native.Nat.{ℕ, _+_, _*_, _-_}
-use Prim.Native.Char.{Char, code}
+use Prim.Native.Char.{code}
 use Prim.Native.String.{String, [] as done, _∷_ as _then_}
 use lib.Dec.{eqb, leb, ltb}
-use lib.ListN.{length, getD, take, drop}
-use Rattle.sets.specs.Lists.{_&_, either, all, empty, same, concat, _∪_}
+use lib.ListN.{length, getD, drop}
+use Rattle.sets.specs.Lists.{_&_, either, all, empty, same, concat, _⧺_}
 use Rattle.sets.specs.Bits.{outBit, inBit, readBit, evalBit, acceptBit}
-use Rattle.klaim.specs.declared.Site.{Site}
-use Rattle.klaim.specs.declared.Var.{Var}
 use Rattle.klaim.specs.declared.Loc.{Loc}
 use Rattle.klaim.specs.declared.Loc.the-variants.{At, Here, Use}
 use Rattle.klaim.specs.declared.Slot.{Slot}
@@ -317,7 +315,7 @@ rowLine q l = record {
   group = groupQ;
   size = 0;
   boxes = boxesOf l;
-  vars = concat usedIn (slotsOf l) ∪ concat boundIn (slotsOf l);
+  vars = concat usedIn (slotsOf l) ⧺ concat boundIn (slotsOf l);
   sites = concat sitesIn (slotsOf l);
   lines = q ∷ children l;
   rights = 0;

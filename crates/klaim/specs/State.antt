@@ -2,7 +2,7 @@
 -- Assumes nothing.
 use mathlib.Core.Bool.{Bool, true, false, cond}
 use mathlib.Core.List.{List, [], _∷_}
-use mathlib.Core.Option.{Option, none, some}
+use mathlib.Core.Option.{Option, none}
 use Prim.Native.Nat.{ℕ}
 use lib.ListN.{replicate}
 use Rattle.sets.specs.Lists.{concat, table}
@@ -51,7 +51,7 @@ isNil (Accept a k) = false
 unfoldable pub settle : List Line → Thread → List Thread
 settle ls th = cond (isNil (lineAt ls (th .line))) [] (th ∷ [])
 
--- the home policy of site s, and sandbox k evaluated at site l, as a thread holds them
+-- the home policy of site s, as a thread holds it
 unfoldable pub homePolicy : Net → ℕ → List ℕ
 homePolicy N s = table siteLimit (home N s)
 

@@ -10,7 +10,7 @@ use native.Mathlib.Nat.{div-le-of-le-mul}
 use lib.Dec.{eqb}
 use lib.ListN.{length, getD}
 use borrow.Author.Tests.{ne-eqb}
-use Rattle.sets.specs.Lists.{_∪_, only, keep, concat, below, table, tableFrom}
+use Rattle.sets.specs.Lists.{_⧺_, only, keep, concat, below, table, tableFrom}
 use Rattle.sets.proofs.Lists.{cond-at}
 use Rattle.sets.proofs.Runs.{concat-below, concat-keep, concat-one}
 use Rattle.klaim.specs.Listing.{siteName, letters, row, share, rowV, rowsV}
@@ -46,9 +46,9 @@ unfolding rowV concat only
 one bytes i true = refl
 one bytes i false = refl
 
-pub rows-more : (bytes : List ℕ) (i : ℕ) → rowsTo bytes (i + 1) ≡ rowsTo bytes i ∪ entryV i (getD bytes i 0)
+pub rows-more : (bytes : List ℕ) (i : ℕ) → rowsTo bytes (i + 1) ≡ rowsTo bytes i ⧺ entryV i (getD bytes i 0)
 unfolding entryV
-rows-more bytes i = concat-keep (rowV bytes) (λ j. not (eqb (getD bytes j 0) 0)) i ∙ ap (λ (l : List ℕ). rowsTo bytes i ∪ l) (one bytes i (not (eqb (getD bytes i 0) 0)))
+rows-more bytes i = concat-keep (rowV bytes) (λ j. not (eqb (getD bytes j 0) 0)) i ∙ ap (λ (l : List ℕ). rowsTo bytes i ⧺ l) (one bytes i (not (eqb (getD bytes i 0) 0)))
 
 pub rows-all : (bytes : List ℕ) → rowsTo bytes 1024 ≡ rowsV bytes
 unfolding rowsV
@@ -67,6 +67,6 @@ pub lines-none : (held used : List ℕ) → linesU held used 0 ≡ []
 unfolding linesU below table tableFrom concat
 lines-none held used = refl
 
-pub lines-more : (held used : List ℕ) (s : ℕ) → linesU held used (s + 1) ≡ linesU held used s ∪ lineU s (getD held s 0) (getD used s 0)
+pub lines-more : (held used : List ℕ) (s : ℕ) → linesU held used (s + 1) ≡ linesU held used s ⧺ lineU s (getD held s 0) (getD used s 0)
 unfolding linesU
 lines-more held used s = concat-below (λ s. lineU s (getD held s 0) (getD used s 0)) s

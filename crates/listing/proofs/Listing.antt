@@ -6,7 +6,7 @@ use Prim.Native.Nat.{ℕ, _<_, _≤_}
 use native.Mathlib.Omega.{arith}
 use native.Mathlib.Decide.{decLt}
 use lib.ListN.{getD, List·getD-eq-default}
-use Rattle.sets.specs.Lists.{_∪_, concat, below, table}
+use Rattle.sets.specs.Lists.{_⧺_, concat, below, table}
 use Rattle.sets.proofs.Tables.{length-table, getD-table}
 use Rattle.sets.proofs.Runs.{concat-same}
 use Rattle.klaim.specs.Reader.{World}
@@ -51,4 +51,4 @@ module _ (w : World) where
   unfolding acceptedList listVerdict
   accepted-list h =
       let r = report (w .net) (w .estimate) in
-      ap (λ (l : List ℕ). row "accepted" (numeral (reported r) ∷ []) ∪ (rowsV r ∪ l)) (lines-rows (w .net .size) h)
+      ap (λ (l : List ℕ). row "accepted" (numeral (reported r) ∷ []) ⧺ (rowsV r ⧺ l)) (lines-rows (w .net .size) h)

@@ -6,7 +6,7 @@ use mathlib.Core.List.{List, [], _∷_}
 use Prim.Native.Nat.{ℕ, _/_, _%_, _≤_}
 use lib.Dec.{eqb}
 use lib.ListN.{length, getD}
-use Rattle.sets.specs.Lists.{only, concat, below, _∪_}
+use Rattle.sets.specs.Lists.{only, concat, below, _⧺_}
 use Rattle.klaim.specs.Listing.{numeral, siteName, letters, row, share, reported, rowsV}
 
 -- the row of byte i, if it has a right
@@ -23,7 +23,7 @@ linesU held used n = concat (λ s. lineU s (getD held s 0) (getD used s 0)) (bel
 
 -- the listing of an accepted net from its report and its counts
 unfoldable pub acceptedList : List ℕ → List ℕ → List ℕ → ℕ → List ℕ
-acceptedList report held used n = row "accepted" (numeral (reported report) ∷ []) ∪ (rowsV report ∪ linesU held used n)
+acceptedList report held used n = row "accepted" (numeral (reported report) ∷ []) ⧺ (rowsV report ⧺ linesU held used n)
 
 -- counts of 32 sites: five rights towards each of 32 sites at most, and no more used than held
 pub record Counts (held used : List ℕ) : Type 0 where

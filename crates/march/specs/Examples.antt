@@ -5,13 +5,13 @@ use mathlib.Core.Bool.{not}
 use mathlib.Core.List.{List, [], _∷_, _++_, map}
 use Prim.Native.Nat.{ℕ}
 use Prim.Native.String.{String}
-use Rattle.sets.specs.Lists.{keep, concat, same, _∪_}
+use Rattle.sets.specs.Lists.{keep, concat, same, _⧺_}
 use Rattle.klaim.specs.Rows.{text, newline}
 use Rattle.klaim.specs.Listing.{listing}
 
 -- rows as bytes
 unfoldable pub bytes : List String → List ℕ
-bytes rows = concat (λ r. text r ∪ (newline ∷ [])) rows
+bytes rows = concat (λ r. text r ⧺ (newline ∷ [])) rows
 
 -- the rows but one
 unfoldable pub but : String → List String → List String

@@ -16,9 +16,9 @@ use lib.ListN.{length, getD, take, drop, length-take, length-map, set, replicate
 use lib.Seq.{ext-getD, getD-take, getD-set-same, getD-set-other}
 use Rattle.sets.specs.Lists.{_&_, either, imp, all, any, only, keep, same, below, table, tableFrom}
 use Rattle.sets.specs.Bits.{has, mem, sites, join}
-use Rattle.sets.proofs.Lists.{iff, and-i, and-l, and-r, imp-e, any-at, any-i, length-union, or-case, or-l, or-r, eqb-eq, ltb-lt, lt-ltb}
+use Rattle.sets.proofs.Lists.{and-true, and-false, and-yes, and-no, eqb-suc, iff, and-i, and-l, and-r, imp-e, any-at, any-i, length-union, or-case, or-l, or-r, eqb-eq, ltb-lt, lt-ltb}
 use borrow.Author.Tests.{eq-eqb, ne-eqb, le-ltb}
-use Rattle.sets.proofs.Shared.{and-first, and-stop, mem-single, none-high}
+use Rattle.sets.proofs.Shared.{mem-single, none-high}
 use Rattle.sets.proofs.Bits.{digit, has-or, has-none, has-half, same-bits}
 use Rattle.sets.proofs.Tables.{Filled, below-in, in-below, table-in, table-all}
 use Rattle.klaim.specs.Analysis.{choices}
@@ -218,20 +218,6 @@ trailing (suc k) n p h = go (n % 2) refl (trailing k (n / 2))
 mem-even : (y u : ℕ) → mem (suc u) (y * 2) ≡ mem u y
 mem-even y u = let e : y * 2 / 2 ≡ y = omega arith in sym (has-half u (y * 2)) ∙ ap (λ (x : ℕ). mem u x) e
 
-eqb-next : (x y : ℕ) → eqb x y ≡ eqb (suc x) (suc y)
-eqb-next x y =
-    iff (λ t. let e : suc x ≡ suc y = ap suc (eqb-eq t) in eq-eqb _ _ e) (λ t. let f : suc x ≡ suc y = eqb-eq t in let e : x ≡ y = omega arith in eq-eqb _ _ e)
-
-and-none : (b : Bool) → (b & false) ≡ false
-unfolding _&_
-and-none true = refl
-and-none false = refl
-
-and-one : (b : Bool) → (b & true) ≡ b
-unfolding _&_
-and-one true = refl
-and-one false = refl
-
 without : (k n : ℕ) → (n ≡ 0 → ⊥) → n < 2 ^ k → (u : ℕ) → mem u (bitAnd n (n - 1)) ≡ (mem u n & not (eqb u (trailingZeros k n)))
 unfolding trailingZeros _&_
 without zero n p h = absurd (p (omega arith))
@@ -251,8 +237,8 @@ without (suc k) n p h = go (n % 2) refl (without k (n / 2))
         ∙ mem-even (bitAnd (n / 2) ((n - 1) / 2)) u
         ∙ ap (λ (x : ℕ). mem u (bitAnd (n / 2) x)) f
         ∙ ih (λ z. p (omega arith)) half u
-        ∙ ap₂ (λ (a b : Bool). a & not b) (has-half u n) (eqb-next u (trailingZeros k (n / 2)))
-    go (suc zero) e ih zero = mem-low (bitAnd n (n - 1)) 0 (omega (arith, and-step n (n - 1))) ∙ sym (and-none (mem 0 n))
+        ∙ ap₂ (λ (a b : Bool). a & not b) (has-half u n) (eqb-suc u (trailingZeros k (n / 2)))
+    go (suc zero) e ih zero = mem-low (bitAnd n (n - 1)) 0 (omega (arith, and-step n (n - 1))) ∙ sym (and-false (mem 0 n))
     go (suc zero) e ih (suc u) =
         let f : (n - 1) / 2 ≡ n / 2 = omega arith in
         let g : bitAnd n (n - 1) ≡ bitAnd (n / 2) ((n - 1) / 2) * 2 = omega (arith, and-step n (n - 1)) in
@@ -262,7 +248,7 @@ without (suc k) n p h = go (n % 2) refl (without k (n / 2))
         ∙ ap (λ (x : ℕ). mem u (bitAnd (n / 2) x)) f
         ∙ ap (λ (x : ℕ). mem u x) (and-self (n / 2))
         ∙ has-half u n
-        ∙ sym (ap (λ (b : Bool). mem (suc u) n & not b) z ∙ and-one (mem (suc u) n))
+        ∙ sym (ap (λ (b : Bool). mem (suc u) n & not b) z ∙ and-true (mem (suc u) n))
     go (suc (suc d)) e ih u = absurd (omega arith)
 
 -- of rows and sites: s in the set, r in the rest, e taken out of it
@@ -300,7 +286,7 @@ module _ (set rest : ℕ) (some : rest ≡ 0 → ⊥) (low : rest < 4294967296) 
 -- no site left
 pub turn-end : (set rest : ℕ) → rest ≡ 0 → (n x i : ℕ) → (ltb i n & (mem x set & not (mem x rest))) ≡ (ltb i n & mem x set)
 turn-end set rest e n x i =
-    ap (λ (b : Bool). ltb i n & (mem x set & not b)) (ap (λ (y : ℕ). mem x y) e ∙ has-none x) ∙ ap (λ (b : Bool). ltb i n & b) (and-one (mem x set))
+    ap (λ (b : Bool). ltb i n & (mem x set & not b)) (ap (λ (y : ℕ). mem x y) e ∙ has-none x) ∙ ap (λ (b : Bool). ltb i n & b) (and-true (mem x set))
 
 -- no site yet
 pub turn-none : (n x i set : ℕ) → false ≡ (ltb i n & (mem x set & not (mem x set)))
@@ -528,10 +514,10 @@ module _ {A : Type 0} (r : List ℕ) (n : ℕ) (g : A → Bool) (h : ℕ → A) 
       go (yes m) =
           let e : min k n ≡ k = omega arith in
           let f : suc k ≡ min (suc k) n = omega arith in
-          ap₂ (λ (x : ℕ) (b : Bool). length (keep g (table x h)) + cond b 1 0) e (and-first (lt-ltb k n m)) ∙ keep-more g k h (min (suc k) n) f
+          ap₂ (λ (x : ℕ) (b : Bool). length (keep g (table x h)) + cond b 1 0) e (and-yes _ (lt-ltb k n m)) ∙ keep-more g k h (min (suc k) n) f
       go (no m) =
           let e : min k n ≡ min (suc k) n = omega arith in
-          ap₂ (λ (x : ℕ) (b : Bool). length (keep g (table x h)) + cond b 1 0) e (and-stop (g (h k)) (le-ltb k n (omega arith))) ∙ omega arith
+          ap₂ (λ (x : ℕ) (b : Bool). length (keep g (table x h)) + cond b 1 0) e (and-no (g (h k)) (le-ltb k n (omega arith))) ∙ omega arith
 
   pub rows-count : length (keep (inRows r) (below 256)) ≡ length (keep g (table n h))
   unfolding below

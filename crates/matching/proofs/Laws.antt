@@ -19,7 +19,6 @@ use Rattle.sets.proofs.Bits.{sites-in, in-sites}
 use Rattle.klaim.specs.Invariant.{distinct}
 use Rattle.klaim.specs.Analysis.{choices}
 use Rattle.klaim.proofs.Choices.{fits, product, choices-count, sites-unlike}
-use Rattle.klaim.proofs.Choices as Choices
 use Rattle.tables.specs.View.{rowAt}
 use Rattle.tables.proofs.Lines.{getD-map}
 

@@ -24,7 +24,7 @@ use Rattle.klaim.specs.Invariant.{ThreadOk, Invariant}
 use Rattle.klaim.specs.Engine.{doorAlone, runnable, ready}
 use Rattle.tables.specs.View.{estimateView, fieldBytes, linesView, actionLine, rowAt, rowsView, Decoded, InForm}
 use Rattle.tables.specs.declared.Action.{Action}
-use Rattle.tables.proofs.Lines.{line-view, length-view, nil-test}
+use Rattle.tables.proofs.Lines.{line-view, length-view}
 use Rattle.threads.specs.declared.Thread.{Thread}
 use Rattle.threads.specs.View.{noThread, threadView, threadsView}
 use Rattle.threads.proofs.Laws.{threads-long, thread-some}

@@ -9,7 +9,7 @@ use native.Mathlib.Omega.{arith}
 use native.Mathlib.Nat.{min-eq-left}
 use lib.Dec.{eqb, leb, ltb}
 use lib.ListN.{length, getElem?, length-append}
-use Rattle.sets.specs.Lists.{Elem, first, later, _&_, either, any, only, keep, splice, below, table, tableFrom, among, _∪_}
+use Rattle.sets.specs.Lists.{Elem, first, later, _&_, either, any, only, keep, splice, below, table, tableFrom, among, _⧺_}
 use Rattle.sets.specs.Bits.{outBit, inBit, readBit, evalBit, acceptBit}
 use Rattle.sets.proofs.Lists.{and-l, and-r, and-i, iff, any-at, any-i, in-any, eq-eqb, leb-le, le-leb, ltb-lt, lt-ltb, among-in}
 use Rattle.klaim.specs.declared.Loc.{Loc}
@@ -223,8 +223,8 @@ from-cons n i h = ap (λ (m : ℕ). tableFrom m i (λ k. k)) less
 
 -- the lowest of those that pass a test
 module _ (f : ℕ → Bool) where
-  least-step : (b : Bool) (i : ℕ) (ys : List ℕ) (x : ℕ) → x ≤ i → lesser i (least ys) ≡ i → lesser x (least ys) ≡ x → lesser x (least (only b i ∪ ys)) ≡ x
-  unfolding only _∪_ lesser least
+  least-step : (b : Bool) (i : ℕ) (ys : List ℕ) (x : ℕ) → x ≤ i → lesser i (least ys) ≡ i → lesser x (least ys) ≡ x → lesser x (least (only b i ⧺ ys)) ≡ x
+  unfolding only _⧺_ lesser least
   least-step true i ys x h p q = rw p (min-eq-left h)
   least-step false i ys x h p q = q
 
@@ -241,17 +241,17 @@ module _ (f : ℕ → Bool) where
       whole = omega arith
 
   pub lowest-here : (n i : ℕ) → i < n → f i ≡ true → least (keep f (From n i)) ≡ some i
-  unfolding keep only _∪_ least
+  unfolding keep only _⧺_ least
   lowest-here n i h t =
       ap (λ (xs : List ℕ). least (keep f xs)) (from-cons n i h)
-      ∙ ap (λ (b : Bool). least (only b i ∪ keep f (From n (suc i)))) t
+      ∙ ap (λ (b : Bool). least (only b i ⧺ keep f (From n (suc i)))) t
       ∙ ap (λ (x : ℕ). some x) (least-low (n - suc i) (suc i) i (omega arith))
 
   pub lowest-later : (n i : ℕ) → i < n → f i ≡ false → (j : ℕ) → suc i ≡ j → least (keep f (From n i)) ≡ least (keep f (From n j))
-  unfolding keep only _∪_
+  unfolding keep only _⧺_
   lowest-later n i h t j e =
       ap (λ (xs : List ℕ). least (keep f xs)) (from-cons n i h)
-      ∙ ap (λ (b : Bool). least (only b i ∪ keep f (From n (suc i)))) t
+      ∙ ap (λ (b : Bool). least (only b i ⧺ keep f (From n (suc i)))) t
       ∙ ap (λ (k : ℕ). least (keep f (From n k))) e
 
   pub lowest-end : (n i : ℕ) → n ≤ i → least (keep f (From n i)) ≡ none

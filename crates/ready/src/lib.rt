@@ -1,7 +1,7 @@
 //! The door called by itself, and the lowest thread that can make a bare step.
 ghost use mathlib.Core.Path.{_≡_};
 ghost use mathlib.Core.List.{map};
-ghost use Prim.Native.Nat.{ℕ, _<_, _≤_};
+ghost use Prim.Native.Nat.{_<_, _≤_};
 ghost use lib.ListN.{length, getD, take};
 ghost use Rattle.sets.specs.Lists.{_&_, any};
 ghost use Rattle.klaim.specs.Process.{lineAt, tree};

@@ -7,15 +7,15 @@ use Prim.Native.Nat.{ℕ, zero, suc, _<_, _^_}
 use native.Mathlib.Omega.{arith}
 use lib.Dec.{eqb}
 use borrow.Author.Tests.{ne-eqb}
-use Rattle.sets.specs.Lists.{All, done, more, _&_, either, any, only, keep, _∪_}
+use Rattle.sets.specs.Lists.{All, done, more, _&_, either, any, only, keep, _⧺_}
 use Rattle.sets.specs.Bits.{mem, join, joins, grant}
 use Rattle.sets.proofs.Lists.{iff, and-l, and-r, and-i, eqb-eq, eqb-i}
 use Rattle.sets.proofs.Bits.{has-or, has-none, mem-one}
 use Rattle.sets.proofs.Joins.{join-zero, join-none}
 
 -- some element that passes both tests
-only-any : {A : Type 0} (p : A → Bool) (b : Bool) (x : A) (ys : List A) → any p (only b x ∪ ys) ≡ either (b & p x) (any p ys)
-unfolding any only _∪_ _&_ either
+only-any : {A : Type 0} (p : A → Bool) (b : Bool) (x : A) (ys : List A) → any p (only b x ⧺ ys) ≡ either (b & p x) (any p ys)
+unfolding any only _⧺_ _&_ either
 only-any p true x ys = refl
 only-any p false x ys = refl
 

@@ -7,7 +7,7 @@ use mathlib.Core.Option.{some}
 use Prim.Native.Nat.{ℕ, _+_, _*_, _<_, _≤_}
 use lib.Dec.{ltb}
 use lib.ListN.{getD}
-use Rattle.sets.specs.Lists.{all, _∪_}
+use Rattle.sets.specs.Lists.{all, _⧺_}
 use Rattle.sets.proofs.Runs.{union-none}
 use Rattle.klaim.specs.Rows.{Row, groupD, groupL, groupB}
 use Rattle.klaim.specs.Reader.{inLimits, key, nth, pairPlace, boxPlace, rootOf}
@@ -55,34 +55,34 @@ pub record RootRow (s q : ℕ) (x : Row) : Type 0 where
 
 -- T and A rows
 tuple-as : (g z w : ℕ) (ss : List ℕ) → key (rowAs g z [] [] ss [] w) ≡ g ∷ ss
-unfolding key _∪_
+unfolding key _⧺_
 tuple-as g z w ss = ap (λ (l : List ℕ). g ∷ l) (union-none ss)
 
 -- what the code's form of a row stands for
 module _ (r : RowData) (G : rowGood r ≡ true) (L : inLimits (rowData r) ≡ true) where
   pub pair-row : pairGroup (r .group) ≡ true → PairRow (r .line .target .number) (r .line .fields .a .number) (rowData r)
-  unfolding key pairPlace _∪_
+  unfolding key pairPlace _⧺_
   pair-row p =
       let P = Shapes.pair-row r G L p in
       subst (λ (x : Row). PairRow (r .line .target .number) (r .line .fields .a .number) x) (sym (P .row-is))
       (record { keyed = refl; placed = refl; some = P .some; s-low = P .from-low; t-low = P .to-low })
 
   pub box-row : r .group ≡ groupD → BoxRow (r .line .sandbox) (r .line .target) (rowData r)
-  unfolding key boxPlace _∪_
+  unfolding key boxPlace _⧺_
   box-row p =
       let P = Shapes.box-row r G L p in
       subst (λ (x : Row). BoxRow (r .line .sandbox) (r .line .target) x) (sym (P .row-is))
       (record { keyed = ap (λ (l : List ℕ). r .group ∷ r .line .sandbox ∷ l) (union-none (sitesTo (r .line .target))); placed = refl; some = P .some; k-low = P .box-low; t-low = rw (P .row-is) at (Shapes.within (rowData r) L .sites-low); t-most = toward-low P })
 
   pub bound-row : r .group ≡ groupB → BoundRow (r .variable) (r .line .target .number) (rowData r)
-  unfolding key _∪_
+  unfolding key _⧺_
   bound-row p =
       let P = Shapes.bound-row r G L p in
       subst (λ (x : Row). BoundRow (r .variable) (r .line .target .number) x) (sym (P .row-is))
       (record { keyed = refl; var-is = refl; site-is = refl; u-low = P .variable-low; s-low = P .site-low })
 
   pub root-row : r .group ≡ groupL → RootRow (r .line .target .number) (r .own) (rowData r)
-  unfolding key rootOf _∪_
+  unfolding key rootOf _⧺_
   root-row p =
       let P = Shapes.root-row r G L p in
       subst (λ (x : Row). RootRow (r .line .target .number) (r .own) x) (sym (P .row-is))

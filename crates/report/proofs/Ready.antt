@@ -1,10 +1,8 @@
 -- What a net and an estimate that were read meet: the conditions of `report`.
 -- Assumes nothing.
-use mathlib.Core.Path.{_≡_, refl, ap, subst}
-use Prim.Native.Nat.{ℕ, zero, suc, _+_, _<_}
+use mathlib.Core.Path.{refl}
+use Prim.Native.Nat.{ℕ, _<_}
 use native.Mathlib.Omega.{arith}
-use native.Mathlib.Nat.{add-zero}
-use Rattle.sets.specs.Lists.{Elem, first, later, table, tableFrom}
 use Rattle.sets.proofs.Lists.{All-in}
 use Rattle.sets.proofs.Tables.{length-table, table-in}
 use Rattle.klaim.proofs.Reader.{RootOk, NetOk}

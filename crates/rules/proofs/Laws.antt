@@ -6,7 +6,7 @@ use mathlib.Core.List.{List, [], _∷_}
 use Prim.Native.Nat.{ℕ, suc, _+_, _-_, _*_, _<_, _≤_}
 use native.Mathlib.Omega.{arith}
 use lib.ListN.{getD}
-use Rattle.sets.specs.Lists.{_&_, imp, all, only, keep, _∪_, tableFrom, table, below}
+use Rattle.sets.specs.Lists.{_&_, imp, all, only, keep, _⧺_, tableFrom, table, below}
 use Rattle.sets.specs.Bits.{mem, sites, within, joins}
 use Rattle.sets.proofs.Lists.{all-at, all-i, all-same, iff}
 use Rattle.sets.proofs.Tables.{getD-table, in-below}
@@ -37,8 +37,8 @@ pub all-below : (f : ℕ → Bool) → allFrom f 0 ≡ all f (below 32)
 unfolding allFrom below table
 all-below f = refl
 
-all-only : {A : Type 0} (f : A → Bool) (b : Bool) (x : A) (ys : List A) → (imp b (f x) & all f ys) ≡ all f (only b x ∪ ys)
-unfolding imp only _∪_ all _&_
+all-only : {A : Type 0} (f : A → Bool) (b : Bool) (x : A) (ys : List A) → (imp b (f x) & all f ys) ≡ all f (only b x ⧺ ys)
+unfolding imp only _⧺_ all _&_
 all-only f true x ys = refl
 all-only f false x ys = refl
 

@@ -9,9 +9,8 @@ use lib.ListN.{length, getD, take, set}
 use lib.Seq.{take-suc, take-suc-set}
 use Rattle.sets.specs.Lists.{_&_, imp, all, any, tableFrom, table, below, same, among}
 use Rattle.sets.specs.Bits.{has, mem, sites}
-use Rattle.sets.proofs.Lists.{and-l, and-r, all-at, all-same, ltb-lt, map-append}
+use Rattle.sets.proofs.Lists.{and-yes, and-l, and-r, all-at, all-same, ltb-lt, map-append}
 use Rattle.sets.proofs.Tables.{below-in}
-use Rattle.sets.proofs.Shared.{and-first}
 use Rattle.klaim.specs.declared.Var.{Var}
 use Rattle.klaim.specs.declared.Loc.{Loc}
 use Rattle.klaim.specs.declared.Slot.{Slot}
@@ -103,7 +102,7 @@ module _ (E : Estimate) (P : ℕ) where
   bound-fits f [] [] m h = refl
   bound-fits f [] (v ∷ vs) m h = sym m
   bound-fits f (s ∷ ss) [] m h = sym m
-  bound-fits f (Value x ∷ ss) (v ∷ vs) m h = bound-fits f ss vs (and-r _ _ m) (and-r _ _ h) ∙ sym (and-first (any-among v (ltb-lt v 32 (and-l _ _ h))))
+  bound-fits f (Value x ∷ ss) (v ∷ vs) m h = bound-fits f ss vs (and-r _ _ m) (and-r _ _ h) ∙ sym (and-yes _ (any-among v (ltb-lt v 32 (and-l _ _ h))))
   bound-fits f (Bind u ∷ ss) (v ∷ vs) m h = ap₂ _&_ (among-low (may E (u .0)) v (ltb-lt v 32 (and-l _ _ h))) (bound-fits f ss vs (and-r _ _ m) (and-r _ _ h))
 
   imp-same : {a b c d : Bool} → a ≡ c → (a ≡ true → b ≡ d) → imp a b ≡ imp c d

@@ -6,8 +6,6 @@ use mathlib.Core.List.{List}
 use Prim.Native.Nat.{ℕ, _≤_}
 use lib.ListN.{length}
 use Rattle.sets.specs.Lists.{all}
-use Rattle.klaim.specs.declared.Var.{Var}
-use Rattle.klaim.specs.declared.Loc.{Loc}
 use Rattle.klaim.specs.declared.Slot.{Slot}
 use Rattle.klaim.specs.declared.Slot.the-variants.{Value, Bind}
 use Rattle.klaim.specs.Net.{Estimate, may}

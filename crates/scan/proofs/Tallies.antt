@@ -7,7 +7,7 @@ use Prim.Native.Nat.{ℕ, _+_}
 use native.Mathlib.Omega.{arith}
 use lib.Dec.{eqb}
 use borrow.Author.Tests.{lt-ltb}
-use Rattle.sets.specs.Lists.{All, done, more, _&_, only, keep, below, same, _∪_}
+use Rattle.sets.specs.Lists.{All, done, more, _&_, only, keep, below, same, _⧺_}
 use Rattle.sets.proofs.Lists.{eqb-eq, and-true, and-false, and-assoc}
 use Rattle.sets.proofs.Runs.{below-snoc}
 use Rattle.klaim.specs.Rows.{Row, groupN, groupQ, rowLine}
@@ -45,11 +45,11 @@ module _ (above : List Row) (r : Row) (n : ℕ) where
 
 -- no row of a foreign group stands above
 pub group-none : (t : Text) (g : ℕ) (above : List Row) → All (λ r. own t (r .group) ≡ true) above → own t g ≡ false → ofGroup g above ≡ []
-unfolding ofGroup keep only _∪_
+unfolding ofGroup keep only _⧺_
 group-none t g [] done h = refl
 group-none t g (r ∷ above) (more p ps) h = go (eqb (r .group) g) refl (group-none t g above ps h)
   where
-    go : (b : Bool) → eqb (r .group) g ≡ b → keep (λ r. eqb (r .group) g) above ≡ [] → only b r ∪ keep (λ r. eqb (r .group) g) above ≡ []
+    go : (b : Bool) → eqb (r .group) g ≡ b → keep (λ r. eqb (r .group) g) above ≡ [] → only b r ⧺ keep (λ r. eqb (r .group) g) above ≡ []
     go true e k = absurd (false≢true (sym h ∙ ap (own t) (sym (eqb-eq e)) ∙ p))
     go false e k = k
 

@@ -6,7 +6,7 @@ use mathlib.Core.List.{List, [], _∷_, map}
 use Prim.Native.Nat.{suc, _≤_}
 use native.Mathlib.Omega.{arith}
 use lib.ListN.{length}
-use Rattle.sets.specs.Lists.{Elem, first, later, concat, _∪_}
+use Rattle.sets.specs.Lists.{Elem, first, later, concat, _⧺_}
 use Rattle.sets.proofs.Lists.{in-none, union-case, map-out}
 
 -- no element stands twice
@@ -59,8 +59,8 @@ module _ {A : Type 0} where
       put z (first e) = subst (λ (w : A). Elem w ys) (sym e) i
       put z (later j) = h z j
 
-  pub unlike-union : {xs ys : List A} → Unlike xs → Unlike ys → ((x : A) → Elem x xs → Elem x ys → ⊥) → Unlike (xs ∪ ys)
-  unfolding _∪_
+  pub unlike-union : {xs ys : List A} → Unlike xs → Unlike ys → ((x : A) → Elem x xs → Elem x ys → ⊥) → Unlike (xs ⧺ ys)
+  unfolding _⧺_
   unlike-union none v h = v
   unlike-union {ys = ys} (more {x = x} {xs = xs} new u) v h = more (λ i. go (union-case xs ys i)) (unlike-union u v (λ y i j. h y (later i) j))
     where

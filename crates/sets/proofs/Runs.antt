@@ -9,18 +9,18 @@ use native.Mathlib.Nat.{add-zero, mul-suc}
 use native.Mathlib.Numerals.{add-one}
 use lib.ListN.{length, take, getD}
 use lib.Seq.{take-suc}
-use Rattle.sets.specs.Lists.{_∪_, only, keep, sum, concat, below, table, tableFrom}
+use Rattle.sets.specs.Lists.{_⧺_, only, keep, sum, concat, below, table, tableFrom}
 use Rattle.sets.proofs.Lists.{keep-snoc}
 use Rattle.sets.proofs.Tables.{table-snoc}
 
 module _ {A : Type 0} where
-  pub union-none : (xs : List A) → xs ∪ [] ≡ xs
-  unfolding _∪_
+  pub union-none : (xs : List A) → xs ⧺ [] ≡ xs
+  unfolding _⧺_
   union-none [] = refl
   union-none (x ∷ xs) = ap (λ (l : List A). x ∷ l) (union-none xs)
 
-  pub union-assoc : (xs ys zs : List A) → (xs ∪ ys) ∪ zs ≡ xs ∪ (ys ∪ zs)
-  unfolding _∪_
+  pub union-assoc : (xs ys zs : List A) → (xs ⧺ ys) ⧺ zs ≡ xs ⧺ (ys ⧺ zs)
+  unfolding _⧺_
   union-assoc [] ys zs = refl
   union-assoc (x ∷ xs) ys zs = ap (λ (l : List A). x ∷ l) (union-assoc xs ys zs)
 
@@ -44,21 +44,21 @@ pub sum-below : (f : ℕ → ℕ) (n : ℕ) → sum f (below (n + 1)) ≡ sum f 
 sum-below f n = ap (sum f) (below-snoc n) ∙ sum-snoc f (below n) n
 
 module _ {A B : Type 0} where
-  pub concat-append : (f : A → List B) (xs ys : List A) → concat f (xs ++ ys) ≡ concat f xs ∪ concat f ys
-  unfolding concat _∪_
+  pub concat-append : (f : A → List B) (xs ys : List A) → concat f (xs ++ ys) ≡ concat f xs ⧺ concat f ys
+  unfolding concat _⧺_
   concat-append f [] ys = refl
-  concat-append f (x ∷ xs) ys = ap (λ (l : List B). f x ∪ l) (concat-append f xs ys) ∙ sym (union-assoc (f x) (concat f xs) (concat f ys))
+  concat-append f (x ∷ xs) ys = ap (λ (l : List B). f x ⧺ l) (concat-append f xs ys) ∙ sym (union-assoc (f x) (concat f xs) (concat f ys))
 
   pub concat-one : (f : A → List B) (x : A) → concat f (x ∷ []) ≡ f x
   unfolding concat
   concat-one f x = union-none (f x)
 
 module _ {B : Type 0} (f : ℕ → List B) where
-  pub concat-below : (n : ℕ) → concat f (below (n + 1)) ≡ concat f (below n) ∪ f n
-  concat-below n = ap (concat f) (below-snoc n) ∙ concat-append f (below n) (n ∷ []) ∙ ap (λ (l : List B). concat f (below n) ∪ l) (concat-one f n)
+  pub concat-below : (n : ℕ) → concat f (below (n + 1)) ≡ concat f (below n) ⧺ f n
+  concat-below n = ap (concat f) (below-snoc n) ∙ concat-append f (below n) (n ∷ []) ∙ ap (λ (l : List B). concat f (below n) ⧺ l) (concat-one f n)
 
   -- of those numbers that pass
-  pub concat-keep : (g : ℕ → Bool) (n : ℕ) → concat f (keep g (below (n + 1))) ≡ concat f (keep g (below n)) ∪ concat f (only (g n) n)
+  pub concat-keep : (g : ℕ → Bool) (n : ℕ) → concat f (keep g (below (n + 1))) ≡ concat f (keep g (below n)) ⧺ concat f (only (g n) n)
   concat-keep g n = ap (λ (l : List ℕ). concat f (keep g l)) (below-snoc n) ∙ ap (concat f) (keep-snoc g (below n) n) ∙ concat-append f (keep g (below n)) (only (g n) n)
 
 -- functions that agree below n
@@ -67,7 +67,7 @@ unfolding concat below table tableFrom
 concat-same f g zero e = refl
 concat-same {B} f g (suc n) e =
     subst (λ (m : ℕ). concat f (below m) ≡ concat g (below m)) (add-one n)
-    (concat-below f n ∙ ap (λ (l : List B). l ∪ f n) (concat-same f g n (λ s h. e s (omega arith))) ∙ ap (λ (l : List B). concat g (below n) ∪ l) (e n (omega arith)) ∙ sym (concat-below g n))
+    (concat-below f n ∙ ap (λ (l : List B). l ⧺ f n) (concat-same f g n (λ s h. e s (omega arith))) ∙ ap (λ (l : List B). concat g (below n) ⧺ l) (e n (omega arith)) ∙ sym (concat-below g n))
 
 pub sum-same : (f g : ℕ → ℕ) (n : ℕ) → ((s : ℕ) → s < n → f s ≡ g s) → sum f (below n) ≡ sum g (below n)
 unfolding sum below table tableFrom

@@ -30,11 +30,11 @@ unfoldable pub imp : Bool → Bool → Bool
 imp true b = b
 imp false b = true
 
--- the union of two lists: one behind the other
-infixr 60 _∪_
-unfoldable pub _∪_ : {A : Type 0} → List A → List A → List A
-[] ∪ ys = ys
-(x ∷ xs) ∪ ys = x ∷ (xs ∪ ys)
+-- two lists, one behind the other
+infixr 60 _⧺_
+unfoldable pub _⧺_ : {A : Type 0} → List A → List A → List A
+[] ⧺ ys = ys
+(x ∷ xs) ⧺ ys = x ∷ (xs ⧺ ys)
 
 module _ {A : Type 0} where
   unfoldable pub all : (A → Bool) → List A → Bool
@@ -53,7 +53,7 @@ module _ {A : Type 0} where
   -- those elements that pass
   unfoldable pub keep : (A → Bool) → List A → List A
   keep f [] = []
-  keep f (x ∷ xs) = only (f x) x ∪ keep f xs
+  keep f (x ∷ xs) = only (f x) x ⧺ keep f xs
 
   -- place k taken out, and the list ys put in there
   unfoldable pub splice : ℕ → List A → List A → List A
@@ -79,10 +79,10 @@ module _ {A : Type 0} where
   sum f [] = 0
   sum f (x ∷ xs) = f x + sum f xs
 
--- the union of f x over a list
+-- f x for each x of a list, one behind the other
 unfoldable pub concat : {A B : Type 0} → (A → List B) → List A → List B
 concat f [] = []
-concat f (x ∷ xs) = f x ∪ concat f xs
+concat f (x ∷ xs) = f x ⧺ concat f xs
 
 -- 0, .., n - 1
 unfoldable pub below : ℕ → List ℕ

@@ -23,7 +23,6 @@ use Rattle.klaim.proofs.Invariant.{start-gives}
 use Rattle.tables.specs.declared.Net as Tables
 use Rattle.tables.specs.declared.Estimate.{Estimate}
 use Rattle.tables.specs.View.{netView, rootAt, rootsView}
-use Rattle.tables.proofs.Lines.{length-view}
 use Rattle.threads.specs.View.{bindingsView, threadsView}
 use Rattle.threads.proofs.Laws.{bindings-none}
 use Rattle.worlds.specs.declared.WorldRead.{WorldRead}

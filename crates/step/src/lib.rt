@@ -1,14 +1,12 @@
 //! The bare and the guarded step of the engine.
 ghost use mathlib.Core.Path.{_≡_};
-ghost use mathlib.Core.Bool.{true, false, cond, not};
+ghost use mathlib.Core.Bool.{false, cond, not};
 ghost use mathlib.Core.List.{[], _∷_, _++_};
 ghost use Prim.Native.Nat.{_+_, _-_, _<_, _≤_};
 ghost use lib.Dec.{eqb, leb};
 ghost use lib.ListN.{length};
 ghost use Rattle.sets.specs.Lists.{_&_, either, splice};
-ghost use Rattle.klaim.specs.Process.{lineAt};
 ghost use Rattle.klaim.specs.Net.{Net};
-ghost use Rattle.klaim.specs.State.{isNil};
 ghost use Rattle.klaim.specs.State as Spec;
 ghost use Rattle.klaim.specs.Engine.{permits as permitsOf};
 ghost use Rattle.tables.specs.View.{linesView, rowsView, rowAt};

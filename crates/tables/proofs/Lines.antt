@@ -30,10 +30,6 @@ pub line-view : (n : ℕ) (bs : List ℕ) (q : ℕ) → q < n → lineAt (linesV
 unfolding linesView
 line-view n bs q h = getD-table n (lineOf bs) q Process.Nil h
 
--- a line is the same in every view that has it
-pub same-line : (n m : ℕ) (bs : List ℕ) (q : ℕ) → q < n → q < m → lineAt (linesView n bs) q ≡ lineAt (linesView m bs) q
-same-line n m bs q h l = line-view n bs q h ∙ sym (line-view m bs q l)
-
 -- a line of kind 0 is `nil`, and no other
 abbrev Other : Line → Type 0
 Other x = isNil x ≡ false

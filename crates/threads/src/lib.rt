@@ -2,9 +2,8 @@
 ghost use mathlib.Core.Path.{_≡_};
 ghost use mathlib.Core.List.{_++_, _∷_, []};
 ghost use mathlib.Core.Option.{none, some, Option·getD};
-ghost use Prim.Native.Nat.{_+_, _-_, _<_, _≤_};
+ghost use Prim.Native.Nat.{_+_, _-_, _<_};
 ghost use lib.ListN.{getD, set};
-ghost use Rattle.sets.specs.Lists.{splice};
 ghost use Rattle.sets.specs.Bits.{has};
 ghost use Rattle.klaim.specs.Net.{Net};
 ghost use Rattle.klaim.specs.State.{homePolicy, boxPolicy};

@@ -1,17 +1,17 @@
 -- Laws of the use maps of a site's roots.
 -- Assumes nothing.
 use mathlib.Core.Path.{_≡_, refl, sym, ap, ap₂, _∙_}
-use mathlib.Core.Bool.{Bool, true, false}
+use mathlib.Core.Bool.{Bool}
 use mathlib.Core.List.{List}
-use Prim.Native.Nat.{ℕ, suc, _+_, _*_, _-_, _<_, _≤_, _^_}
+use Prim.Native.Nat.{ℕ, _+_, _*_, _-_, _<_, _≤_, _^_}
 use native.Mathlib.Omega.{arith}
 use borrow.Author.Tests.{eq-eqb, ne-eqb}
 use lib.Dec.{eqb}
-use lib.ListN.{length, getD, drop, drop-of-length-le}
+use lib.ListN.{getD, drop, drop-of-length-le}
 use Rattle.sets.specs.Lists.{table}
 use Rattle.sets.specs.Bits.{join, grant, joins}
 use Rattle.sets.proofs.Tables.{length-table, table-drop, same-table, getD-table}
-use Rattle.klaim.specs.Process.{Line, tree}
+use Rattle.klaim.specs.Process.{tree}
 use Rattle.klaim.specs.Net.{Root, Net, Estimate, holds}
 use Rattle.klaim.specs.Reader.{World}
 use Rattle.klaim.specs.Analysis.{placeSet, process}

@@ -1,6 +1,6 @@
 //! The rights of a site that a root's use map there or its E rows have, and how many of its home policy they are.
 ghost use mathlib.Core.Path.{_≡_};
-ghost use Prim.Native.Nat.{ℕ, _<_, _+_, _*_};
+ghost use Prim.Native.Nat.{_<_, _+_, _*_};
 ghost use lib.Dec.{eqb};
 ghost use lib.ListN.{length, getD};
 ghost use Rattle.sets.specs.Lists.{table};

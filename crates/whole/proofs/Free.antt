@@ -9,7 +9,7 @@ use lib.Dec.{eqb}
 use lib.ListN.{length, getD, take, drop, length-take, drop-of-length-le}
 use lib.Seq.{drop-cons, getD-take}
 use borrow.Author.Tests.{ne-eqb}
-use Rattle.sets.specs.Lists.{_&_, either, any, empty, concat, among, _∪_}
+use Rattle.sets.specs.Lists.{_&_, either, any, empty, concat, among, _⧺_}
 use Rattle.sets.proofs.Lists.{iff, and-i, and-l, and-r, in-keep, keep-out, among-in, in-among}
 use Rattle.sets.specs.Bits.{inBit, readBit, has, join, less, grant, joins}
 use Rattle.sets.proofs.Bits.{has-or, has-none, has-self, or-has-l, same-bits, mem-one, has-rest, less-none}
@@ -44,8 +44,8 @@ mask-none : maskOf [] ≡ 0
 unfolding maskOf joins
 mask-none = refl
 
-mask-union : (xs ys : List ℕ) → maskOf (xs ∪ ys) ≡ join (maskOf xs) (maskOf ys)
-unfolding maskOf joins _∪_
+mask-union : (xs ys : List ℕ) → maskOf (xs ⧺ ys) ≡ join (maskOf xs) (maskOf ys)
+unfolding maskOf joins _⧺_
 mask-union [] ys = sym (join-none (maskOf ys))
 mask-union (x ∷ xs) ys = ap (join (2 ^ x)) (mask-union xs ys) ∙ sym (join-assoc (2 ^ x) (maskOf xs) (maskOf ys))
 
@@ -181,7 +181,7 @@ free-of f q cs (Rep a) = refl
 free-of f q cs (Out a g k) = out-free q g (take k cs) (f a)
 free-of f q cs (In a g k) = get-free q inBit g (take k cs) (f a)
 free-of f q cs (Read a g k) = get-free q readBit g (take k cs) (f a)
-free-of f q cs (Eval a g b k) = sym (mask-union (usedIn (Value g)) (free (f b) ∪ free (f a)) ∙ ap (join (maskOf (usedIn (Value g)))) (mask-union (free (f b)) (free (f a))))
+free-of f q cs (Eval a g b k) = sym (mask-union (usedIn (Value g)) (free (f b) ⧺ free (f a)) ∙ ap (join (maskOf (usedIn (Value g)))) (mask-union (free (f b)) (free (f a))))
 free-of f q cs (Accept a k) = refl
 
 -- line q by the variables that it names

@@ -4,7 +4,7 @@ ghost use mathlib.Core.List.{List, [], _∷_, map};
 ghost use Prim.Native.Nat.{ℕ, _+_, _<_, _≤_, min};
 ghost use lib.Dec.{eqb, ltb};
 ghost use lib.ListN.{length, take, getD};
-ghost use Rattle.sets.specs.Lists.{_&_, all, empty, concat, below, _∪_};
+ghost use Rattle.sets.specs.Lists.{_&_, all, empty, concat, below, _⧺_};
 ghost use Rattle.sets.specs.Bits.{joins};
 ghost use Rattle.klaim.specs.declared.Slot.the-variants.{Value};
 ghost use Rattle.klaim.specs.Process.{children, usedIn, tree, ordered, free};
@@ -123,7 +123,7 @@ fn one_more(count: u8) -> u8
 
 // Line q named once more; `counts` has how often each line is named, at most two.
 fn named(counts: &mut [u8; 256], q: u8)
-    ensures { λ r. ⌜ ((xs : List ℕ) → Counted xs (now (counts .entry)) → Counted (xs ∪ (q ∷ [])) (now (counts .exit))) ⌝ }
+    ensures { λ r. ⌜ ((xs : List ℕ) → Counted xs (now (counts .entry)) → Counted (xs ⧺ (q ∷ [])) (now (counts .exit))) ⌝ }
 {
     let at = q as usize;
     counts[at] = one_more(counts[at]);
@@ -131,7 +131,7 @@ fn named(counts: &mut [u8; 256], q: u8)
 
 // The children of a line named once more.
 fn named_children(counts: &mut [u8; 256], cs: Children)
-    ensures { λ r. ⌜ ((xs : List ℕ) → Counted xs (now (counts .entry)) → Counted (xs ∪ listOf cs) (now (counts .exit))) ⌝ }
+    ensures { λ r. ⌜ ((xs : List ℕ) → Counted xs (now (counts .entry)) → Counted (xs ⧺ listOf cs) (now (counts .exit))) ⌝ }
 {
     match cs {
         Children::Zero => {}
@@ -148,7 +148,7 @@ fn named_children(counts: &mut [u8; 256], cs: Children)
 // The children of all n lines named once more.
 fn named_lines(counts: &mut [u8; 256], lines: &[u8; 2560], n: usize)
     requires { ⌜ n ≤ 256 ⌝ }
-    ensures { λ r. ⌜ ((xs : List ℕ) → Counted xs (now (counts .entry)) → Counted (xs ∪ concat children (linesView n (now (lines .entry)))) (now (counts .exit))) ⌝ }
+    ensures { λ r. ⌜ ((xs : List ℕ) → Counted xs (now (counts .entry)) → Counted (xs ⧺ concat children (linesView n (now (lines .entry)))) (now (counts .exit))) ⌝ }
 {
     let mut q: usize = 0;
     while q < n {

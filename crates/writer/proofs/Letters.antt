@@ -7,7 +7,7 @@ use Prim.Native.Nat.{ℕ, _+_, _<_, _≤_, _/_, _%_}
 use native.Mathlib.Omega.{arith}
 use borrow.Author.Tests.{eq-eqb, ne-eqb}
 use lib.ListN.{length}
-use Rattle.sets.specs.Lists.{_∪_, only, keep, concat}
+use Rattle.sets.specs.Lists.{_⧺_, only, keep, concat}
 use Rattle.sets.specs.Bits.{has}
 use Rattle.sets.proofs.Lists.{length-union}
 use Rattle.klaim.specs.Listing.{letter, letters, siteName}
@@ -26,18 +26,18 @@ unfolding only has
 mark-no m r x h = rw (ne-eqb (m / r % 2) 1 h)
 
 -- the letter of one bit, and those of the others
-part : (b : Bool) (r : ℕ) (rs : List ℕ) → concat (λ r. letter r ∷ []) (only b r ∪ rs) ≡ only b (letter r) ∪ concat (λ r. letter r ∷ []) rs
-unfolding concat only _∪_
+part : (b : Bool) (r : ℕ) (rs : List ℕ) → concat (λ r. letter r ∷ []) (only b r ⧺ rs) ≡ only b (letter r) ⧺ concat (λ r. letter r ∷ []) rs
+unfolding concat only _⧺_
 part true r rs = refl
 part false r rs = refl
 
-last : (b : Bool) (r : ℕ) → only b r ∪ concat (λ r. letter r ∷ []) [] ≡ only b r
-unfolding concat only _∪_
+last : (b : Bool) (r : ℕ) → only b r ⧺ concat (λ r. letter r ∷ []) [] ≡ only b r
+unfolding concat only _⧺_
 last true r = refl
 last false r = refl
 
 -- the letters, bit by bit
-pub letters-parts : (m : ℕ) → letters m ≡ mark m 1 111 ∪ (mark m 2 105 ∪ (mark m 4 114 ∪ (mark m 8 101 ∪ mark m 16 97)))
+pub letters-parts : (m : ℕ) → letters m ≡ mark m 1 111 ⧺ (mark m 2 105 ⧺ (mark m 4 114 ⧺ (mark m 8 101 ⧺ mark m 16 97)))
 unfolding letters keep letter
 letters-parts m = simp (part, last)
 

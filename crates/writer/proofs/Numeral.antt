@@ -9,7 +9,7 @@ use native.Mathlib.Nat.{div-lt-iff-lt-mul, pow-suc}
 use lib.Dec.{lit<}
 use lib.ListN.{length}
 use borrow.Author.Tests.{lt-ltb, le-ltb}
-use Rattle.sets.specs.Lists.{_∪_}
+use Rattle.sets.specs.Lists.{_⧺_}
 use Rattle.sets.proofs.Lists.{length-union}
 use Rattle.klaim.specs.Listing.{digits, numeral}
 
@@ -18,7 +18,7 @@ unfolding digits
 few zero n h = ap (λ (d : ℕ). (48 + d) ∷ []) (omega arith)
 few (suc k) n h = rw (lt-ltb n 10 h, digits)
 
-many : (k n : ℕ) → 10 ≤ n → digits (suc k) n ≡ digits k (n / 10) ∪ ((48 + n % 10) ∷ [])
+many : (k n : ℕ) → 10 ≤ n → digits (suc k) n ≡ digits k (n / 10) ⧺ ((48 + n % 10) ∷ [])
 unfolding digits
 many k n h = rw (le-ltb n 10 h, digits)
 
@@ -30,7 +30,7 @@ fuel (suc k) (suc j) n p q = go (decLt n 10) (λ h. fuel k j (n / 10) (omega ari
   where
     go : Dec (n < 10) → (10 ≤ n → digits k (n / 10) ≡ digits j (n / 10)) → digits (suc k) n ≡ digits (suc j) n
     go (yes h) ih = few (suc k) n h ∙ sym (few (suc j) n h)
-    go (no h) ih = many k n (omega arith) ∙ ap (λ (l : List ℕ). l ∪ ((48 + n % 10) ∷ [])) (ih (omega arith)) ∙ sym (many j n (omega arith))
+    go (no h) ih = many k n (omega arith) ∙ ap (λ (l : List ℕ). l ⧺ ((48 + n % 10) ∷ [])) (ih (omega arith)) ∙ sym (many j n (omega arith))
 
 -- a number below ten is its digit
 pub numeral-digit : (n : ℕ) → n < 10 → numeral n ≡ (48 + n) ∷ []
@@ -38,10 +38,10 @@ unfolding numeral
 numeral-digit n h = few n n h
 
 -- any other is its tenth, and its last digit behind
-pub numeral-last : (n : ℕ) → 10 ≤ n → numeral n ≡ numeral (n / 10) ∪ ((48 + n % 10) ∷ [])
+pub numeral-last : (n : ℕ) → 10 ≤ n → numeral n ≡ numeral (n / 10) ⧺ ((48 + n % 10) ∷ [])
 unfolding numeral
 numeral-last zero h = absurd (omega arith)
-numeral-last (suc m) h = many m (suc m) h ∙ ap (λ (l : List ℕ). l ∪ ((48 + suc m % 10) ∷ [])) (fuel m (suc m / 10) (suc m / 10) (omega arith) (omega arith))
+numeral-last (suc m) h = many m (suc m) h ∙ ap (λ (l : List ℕ). l ⧺ ((48 + suc m % 10) ∷ [])) (fuel m (suc m / 10) (suc m / 10) (omega arith) (omega arith))
 
 pub length-last : (n : ℕ) → 10 ≤ n → length (numeral n) ≡ length (numeral (n / 10)) + 1
 length-last n h = ap length (numeral-last n h) ∙ length-union (numeral (n / 10)) ((48 + n % 10) ∷ [])

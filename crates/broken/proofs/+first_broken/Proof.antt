@@ -1,12 +1,10 @@
 -- `first_broken` meets its contract. 256 less the line number falls.
 -- Assumes nothing.
-use mathlib.Core.Path.{_≡_, sym, _∙_}
-use mathlib.Core.List.{map}
+use mathlib.Core.Path.{sym, _∙_}
 use native.Mathlib.Omega.{arith}
-use lib.ListN.{take}
 use Rattle.klaim.specs.Process.{node}
 use Rattle.klaim.specs.Analysis.{broken}
-use Rattle.tables.specs.View.{actionLine, fieldBytes, locOf, slotOf}
+use Rattle.tables.specs.View.{actionLine}
 use Rattle.tables.proofs.Lines.{next}
 use Rattle.broken.specs.Lowest.{lowest}
 use Rattle.broken.proofs.Laws.{lowest-both, at-out, at-get, at-eval, broken-at}

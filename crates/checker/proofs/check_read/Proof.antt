@@ -1,5 +1,5 @@
 use borrow.Author.Needs.{needs}
-use mathlib.Core.Path.{_≡_, refl, sym, ap, _∙_}
+use mathlib.Core.Path.{refl, sym, ap, _∙_}
 use mathlib.Core.List.{List, _++_}
 use Prim.Native.Nat.{ℕ}
 use lib.ListN.{drop}
@@ -9,51 +9,36 @@ use Rattle.checker.specs.Check.{answerView}
 use Rattle.checker.proofs.Laws.{answer-by, buffer-by}
 use Rattle.checker.proofs.check_read.Statement.{statement}
 use Rattle.checker.proofs.check_read.Tie as tie
-use Rattle.checker.proofs.check_read.Reads as reads
-use Rattle.checker.proofs.check_read.Lts as lts
-use Rattle.checker.proofs.judged.Reads as judged-reads
-use Rattle.checker.proofs.reported.Reads as reported-reads
-use Rattle.checker.proofs.write_report.Reads as write-report-reads
 
--- src/lib.rt:84:11
 judged-requires : tie.Need-judged-requires
 judged-requires c κs = c .before .pre .0
 
--- src/lib.rt:86:26
 enum-told : tie.Need-enum-told
 enum-told c = search needs
 
--- src/lib.rt:86:34
 reported-requires : tie.Need-reported-requires
 reported-requires c κs = c .before .before .before .before .before .pre .0
 
--- src/lib.rt:86:13
 write-report-requires : tie.Need-write-report-requires
 write-report-requires c κs = c .before .before .before .before .before .before .pre .1
 
--- src/lib.rt:89:30
 enum-known-i : tie.Need-enum-known-i
 enum-known-i c = search needs
 
--- src/lib.rt:90:29
 enum-known-q : tie.Need-enum-known-q
 enum-known-q c = search needs
 
--- src/lib.rt:78:1
 same-length : tie.Need-same-length
 same-length c = c .before .before .write-report .ensures .0
 
--- src/lib.rt:78:1
 returns : tie.Need-returns
 unfolding answerView verdictView written
 returns c = let e = (sym (ap verdictView (c .before .before .before .before .before .enum-told .given .1)) ∙ c .before .before .before .before .before .before .before .judged .ensures) in (c .before .before .write-report .ensures .0, (answer-by _ _ _ e, c .before .before .write-report .ensures .1 ∙ ap (λ (r : List ℕ). r ++ drop 1024 (c .before .before .before .before .before .before .before .before .before .args .buffer .now)) (c .before .before .before .reported .ensures) ∙ buffer-by _ _ _ e))
 
--- src/lib.rt:78:1
 returns-2 : tie.Need-returns-2
 unfolding answerView verdictView written
 returns-2 c = let e = (sym (ap verdictView (c .before .i .given .1)) ∙ c .before .before .before .judged .ensures) in (refl, (answer-by _ _ _ e, buffer-by _ _ _ e))
 
--- src/lib.rt:78:1
 returns-3 : tie.Need-returns-3
 unfolding answerView verdictView written
 returns-3 c = let e = (sym (ap verdictView (c .before .q .given .1)) ∙ c .before .before .before .judged .ensures) in (refl, (answer-by _ _ _ e, buffer-by _ _ _ e))

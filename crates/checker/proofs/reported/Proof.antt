@@ -1,16 +1,10 @@
-use borrow.Author.Needs.{needs}
 use Rattle.checker.proofs.Laws.{rooted-world, given-world, roots-world, hold-world}
 use Rattle.checker.proofs.reported.Statement.{statement}
 use Rattle.checker.proofs.reported.Tie as tie
-use Rattle.checker.proofs.reported.Reads as reads
-use Rattle.checker.proofs.reported.Lts as lts
-use Rattle.report.proofs.report.Reads as report-reads
 
--- src/lib.rt:53:5
 report-requires : tie.Need-report-requires
 report-requires c κs = rooted-world _ (c .before .before .before .before .before .before .before .pre)
 
--- src/lib.rt:49:1
 returns : tie.Need-returns
 returns c = c .report .ensures _ _ (given-world _) (roots-world _) (hold-world _)
 

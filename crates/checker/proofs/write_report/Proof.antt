@@ -7,8 +7,6 @@ use Rattle.sets.proofs.Tables.{filled-none, filled-more}
 use Rattle.checker.proofs.Laws.{Copied, copied-all}
 use Rattle.checker.proofs.write_report.Statement.{statement}
 use Rattle.checker.proofs.write_report.Tie as tie
-use Rattle.checker.proofs.write_report.Reads as reads
-use Rattle.checker.proofs.write_report.Lts as lts
 
 abbrev Inv-loop : tie.InvT-loop
 Inv-loop buffer₀ bytes i₀ buffer i = (i ≤ 1024) × Copied buffer₀ bytes buffer i
@@ -19,35 +17,27 @@ abbrev μ-loop : tie.MeasureT-loop
 bytes-long : (c : tie.Start Inv-loop μ-loop) → length (c .args .t2) ≡ 1024
 bytes-long c = search needs
 
--- src/lib.rt:71:5
 loop-holds : tie.Need-loop-holds Inv-loop μ-loop
 loop-holds c = (omega arith, filled-none _ _ _)
 
--- src/lib.rt:72:21
 array-read-buffer : tie.Need-array-read-buffer Inv-loop μ-loop
 array-read-buffer c = search needs
 
--- src/lib.rt:72:9
 slice-write-buffer : tie.Need-slice-write-buffer Inv-loop μ-loop
 slice-write-buffer c = omega (arith, c .loop-test .taken, c .before .loop .inv .1 .long, c .before .before .pre)
 
--- src/lib.rt:73:9
 add-i : tie.Need-add-i Inv-loop μ-loop
 add-i c = search needs
 
--- src/lib.rt:71:5
 loop-less : tie.Need-loop-less Inv-loop μ-loop
 loop-less c = search needs
 
--- src/lib.rt:71:5
 loop-again : tie.Need-loop-again Inv-loop μ-loop
 loop-again c = (omega arith, filled-more (c .before .loop .inv .1) (omega (arith, c .loop-test .taken, c .before .before .pre)) refl)
 
--- src/lib.rt:66:1
 same-length : tie.Need-same-length Inv-loop μ-loop
 same-length c = c .before .loop .inv .1 .long
 
--- src/lib.rt:66:1
 returns : tie.Need-returns Inv-loop μ-loop
 returns c = (c .before .loop .inv .1 .long, copied-all (c .before .before .args .t2) (c .before .loop .inv .1) (c .loop-test .left) (c .before .loop .inv .0) (bytes-long (c .before .before)) (c .before .before .pre))
 

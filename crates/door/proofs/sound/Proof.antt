@@ -5,31 +5,21 @@ use Rattle.door.proofs.Laws.{sound-broken, sound-adds}
 use borrow.Author.Needs.{needs}
 use Rattle.door.proofs.sound.Statement.{statement}
 use Rattle.door.proofs.sound.Tie as tie
-use Rattle.door.proofs.sound.Reads as reads
-use Rattle.door.proofs.sound.Lts as lts
-use Rattle.broken.proofs.first_broken.Reads as first-broken-reads
-use Rattle.report.proofs.adds_nothing.Reads as adds-nothing-reads
-use Rattle.sets.proofs.single.Reads as single-reads
 
--- src/lib.rt:112:9
 single-requires : tie.Need-single-requires
 single-requires c κs = search needs
 
--- src/lib.rt:113:9
 first-broken-requires : tie.Need-first-broken-requires
 first-broken-requires c κs = search needs
 
--- src/lib.rt:115:9
 returns : tie.Need-returns
 returns c =
     let s = c .before .before .before in
     λ N E b v h z. sound-broken N E (s .args .l) (linesView (s .args .n) (s .args .lines .now)) (s .args .q) (c .before .before .single .ensures) (c .before .first-broken .ensures N E b v h z) (c .if1 .taken)
 
--- src/lib.rt:117:5
 adds-nothing-requires : tie.Need-adds-nothing-requires
 adds-nothing-requires c κs = search needs
 
--- src/lib.rt:98:1
 returns-2 : tie.Need-returns-2
 returns-2 c =
     let s = c .before .before .before .before in

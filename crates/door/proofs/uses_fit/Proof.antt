@@ -4,25 +4,16 @@ use Rattle.door.proofs.Laws.{uses-tests}
 use borrow.Author.Needs.{needs}
 use Rattle.door.proofs.uses_fit.Statement.{statement}
 use Rattle.door.proofs.uses_fit.Tie as tie
-use Rattle.door.proofs.uses_fit.Reads as reads
-use Rattle.door.proofs.uses_fit.Lts as lts
-use Rattle.door.proofs.uses_within.Reads as uses-within-reads
-use Rattle.flow.proofs.use_map.Reads as use-map-reads
-use Rattle.sets.proofs.single.Reads as single-reads
 
--- src/lib.rt:68:9
 single-requires : tie.Need-single-requires
 single-requires c κs = search needs
 
--- src/lib.rt:69:9
 use-map-requires : tie.Need-use-map-requires
 use-map-requires c κs = search needs
 
--- src/lib.rt:70:5
 uses-within-requires : tie.Need-uses-within-requires
 uses-within-requires c κs = search needs
 
--- src/lib.rt:56:1
 returns : tie.Need-returns
 returns c =
     let s = c .before .before .before in

@@ -4,7 +4,6 @@ use Rattle.dump.proofs.Few.{tuples-few, arrivals-few}
 use borrow.Author.Needs.{needs}
 use Rattle.dump.proofs.say_state.Statement.{statement}
 use Rattle.dump.proofs.say_state.Tie as tie
-use Rattle.dump.proofs.say_state.Reads as reads
 
 tuples-long : (c : tie.Start) → length (c .args .t1 .run .tuples) ≡ 1536
 tuples-long c = search needs

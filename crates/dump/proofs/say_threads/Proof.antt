@@ -2,7 +2,6 @@ use Prim.Native.Nat.{_-_, _≤_}
 use borrow.Author.Needs.{needs}
 use Rattle.dump.proofs.say_threads.Statement.{statement}
 use Rattle.dump.proofs.say_threads.Tie as tie
-use Rattle.dump.proofs.say_threads.Reads as reads
 
 abbrev Inv-loop : tie.InvT-loop
 Inv-loop n items k₀ k = n ≤ 64

@@ -1,5 +1,5 @@
 use mathlib.Core.Path.{refl}
-use Rattle.sets.specs.Lists.{_&_, all, only, _∪_}
+use Rattle.sets.specs.Lists.{_&_, all, only, _⧺_}
 use Rattle.text.specs.Fields.{upTo, sitesTo}
 use Rattle.lines.specs.Lines.{names, fitAll, present, nameFits, fieldsFit, lineShape}
 use Rattle.forms.specs.Forms.{rowView, rowData, plainRow, listed, plainShape, rowGood}
@@ -27,7 +27,7 @@ unfolding rowView given rowGood
 returns-4 c = (λ fs M p q r. rw (pair-by fs _ M _ _ _ _ p q r, eq-eqb _ _ (c .before .before .before .if1 .left), lt-ltb _ _ (c .before .before .if2 .left), lt-ltb _ _ (c .before .if3 .left), le-ltb 0 (c .before .before .before .before .args .rights) (omega arith)), refl)
 
 returns-5 : tie.Need-returns-5
-unfolding rowView given rowData plainRow listed only sitesTo _∪_ names plainShape lineShape present nameFits fieldsFit fitAll upTo all _&_
+unfolding rowView given rowData plainRow listed only sitesTo _⧺_ names plainShape lineShape present nameFits fieldsFit fitAll upTo all _&_
 returns-5 c = (λ fs M p q r. rw (pair-by fs _ M _ _ _ _ p q r, eq-eqb _ _ (c .before .before .before .if1 .left), lt-ltb _ _ (c .before .before .if2 .left), lt-ltb _ _ (c .before .if3 .left), lt-ltb 0 (c .before .before .before .before .args .rights) (omega arith), pair-some _ (c .before .before .before .before .pre)), pair-good _ (c .before .before .before .before .pre) refl (rw (lt-ltb 0 (c .before .before .before .before .args .rights) (omega arith))))
 
 pub form-pair-spec : {M : Type 1} → statement M

@@ -2,45 +2,31 @@ use borrow.Author.Needs.{needs}
 use Rattle.writer.proofs.Wrote.{written-count, written-in}
 use Rattle.lotcheck.proofs.main.Statement.{statement}
 use Rattle.lotcheck.proofs.main.Tie as tie
-use Rattle.lotcheck.proofs.main.Reads as reads
-use Rattle.lotcheck.proofs.main.Lts as lts
-use Rattle.io.proofs.read_full.Reads as read-full-reads
-use Rattle.io.proofs.write_all.Reads as write-all-reads
-use Rattle.listing.proofs.list.Reads as list-reads
 
--- src/main.rt:7:30
 slice-aggregate-read-full : tie.Need-slice-aggregate-read-full
 slice-aggregate-read-full c = search needs
 
--- src/main.rt:7:9
 read-full-requires : tie.Need-read-full-requires
 read-full-requires c κs = search needs
 
--- src/main.rt:8:27
 array-share-prefix-input : tie.Need-array-share-prefix-input
 array-share-prefix-input c = search needs
 
--- src/main.rt:8:27
 slice-aggregate-list : tie.Need-slice-aggregate-list
 slice-aggregate-list c = search needs
 
--- src/main.rt:8:9
 list-requires : tie.Need-list-requires
 list-requires c κs = search needs
 
--- src/main.rt:9:22
 array-share-prefix-output : tie.Need-array-share-prefix-output
 array-share-prefix-output c = written-in (c .list .ensures .0)
 
--- src/main.rt:9:22
 slice-aggregate-write-all : tie.Need-slice-aggregate-write-all
 slice-aggregate-write-all c = written-count (c .before .list .ensures .0)
 
--- src/main.rt:9:5
 write-all-requires : tie.Need-write-all-requires
 write-all-requires c κs = search needs
 
--- src/main.rt:4:1
 returns : tie.Need-returns
 returns c = search needs
 

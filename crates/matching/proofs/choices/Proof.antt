@@ -10,10 +10,6 @@ use Rattle.klaim.proofs.Choices.{product}
 use Rattle.matching.proofs.Laws.{product-end, product-down}
 use Rattle.matching.proofs.choices.Statement.{statement}
 use Rattle.matching.proofs.choices.Tie as tie
-use Rattle.matching.proofs.choices.Reads as reads
-use Rattle.matching.proofs.choices.Lts as lts
-use Rattle.matching.proofs.count_sites.Reads as count-sites-reads
-use Rattle.matching.proofs.times.Reads as times-reads
 
 abbrev Inv-loop : tie.InvT-loop
 Inv-loop m reaches p₀ j₀ p j = (j ≤ m) × (length reaches ≡ 5) × (p ≡ min (product (drop j (map sites (take m reaches)))) 257)
@@ -21,42 +17,33 @@ Inv-loop m reaches p₀ j₀ p j = (j ≤ m) × (length reaches ≡ 5) × (p ≡
 abbrev μ-loop : tie.MeasureT-loop
 μ-loop m reaches p₀ j₀ p j = j
 
--- src/lib.rt:118:5
 loop-holds : tie.Need-loop-holds Inv-loop μ-loop
 loop-holds c = let five : length (c .args .t1) ≡ 5 = search needs in (omega arith, five, product-end _ _ (c .pre) five)
 
--- src/lib.rt:119:9
 sub-j : tie.Need-sub-j Inv-loop μ-loop
 sub-j c = search needs
 
--- src/lib.rt:120:31
 mul-count-sites : tie.Need-mul-count-sites Inv-loop μ-loop
 mul-count-sites c = search needs
 
--- src/lib.rt:120:31
 array-read-count-sites : tie.Need-array-read-count-sites Inv-loop μ-loop
 array-read-count-sites c = search needs
 
--- src/lib.rt:120:19
 count-sites-requires : tie.Need-count-sites-requires Inv-loop μ-loop
 count-sites-requires c κs = search needs
 
--- src/lib.rt:120:9
 times-requires : tie.Need-times-requires Inv-loop μ-loop
 times-requires c κs = (omega arith, omega (arith, c .before .before .loop .inv .2))
 
--- src/lib.rt:118:5
 loop-less : tie.Need-loop-less Inv-loop μ-loop
 loop-less c = omega arith
 
--- src/lib.rt:118:5
 loop-again : tie.Need-loop-again Inv-loop μ-loop
 loop-again c =
     let at = c .before .before .before .loop in
     let s = c .before .before .before .before in
     (omega arith, at .inv .1, rw (c .times .ensures, c .before .count-sites .ensures .0, at .inv .2) (product-down (s .args .t1) (s .args .m) (at .j) (s .pre) (at .inv .1) (omega arith) (omega arith)))
 
--- src/lib.rt:112:1
 returns : tie.Need-returns Inv-loop μ-loop
 returns c =
     let at = c .before .loop in

@@ -14,20 +14,13 @@ use Rattle.matching.proofs.Index.{key-first, chosen-is}
 use borrow.Author.Needs.{needs}
 use Rattle.matching.proofs.chosen.Statement.{statement}
 use Rattle.matching.proofs.chosen.Tie as tie
-use Rattle.matching.proofs.chosen.Reads as reads
-use Rattle.matching.proofs.chosen.Lts as lts
-use Rattle.matching.proofs.narrowed.Reads as narrowed-reads
-use Rattle.matching.proofs.rows_with.Reads as rows-with-reads
 
--- src/lib.rt:399:9
 rows-with-requires : tie.Need-rows-with-requires
 rows-with-requires c κs = search needs
 
--- src/lib.rt:400:5
 narrowed-requires : tie.Need-narrowed-requires
 narrowed-requires c κs = search needs
 
--- src/lib.rt:395:1
 returns : tie.Need-returns
 returns c =
     let s = c .before .before in

@@ -6,18 +6,13 @@ use Rattle.matching.proofs.Index.{four-ones}
 use borrow.Author.Needs.{needs}
 use Rattle.matching.proofs.count_rows.Statement.{statement}
 use Rattle.matching.proofs.count_rows.Tie as tie
-use Rattle.matching.proofs.count_rows.Reads as reads
-use Rattle.matching.proofs.count_rows.Lts as lts
 
--- src/lib.rt:411:5
 add-result : tie.Need-add-result
 add-result c = let ar = c .before .before .before .before .args in let p = ones-le 64 (ar .rows .a) (search needs) in let q = ones-le 64 (ar .rows .b) (search needs) in search needs
 
--- src/lib.rt:411:14
 add-result-2 : tie.Need-add-result-2
 add-result-2 c = let ar = c .before .before .before .before .args in let p = ones-le 64 (ar .rows .c) (search needs) in let q = ones-le 64 (ar .rows .d) (search needs) in search needs
 
--- src/lib.rt:411:5
 add-result-3 : tie.Need-add-result-3
 add-result-3 c =
     let ar = c .before .before .before .before .args in
@@ -27,7 +22,6 @@ add-result-3 c =
     let s = ones-le 64 (ar .rows .d) (search needs) in
     search needs
 
--- src/lib.rt:404:1
 returns : tie.Need-returns
 unfolding words
 returns c =

@@ -4,10 +4,7 @@ use Rattle.matching.proofs.Index.{sites-ones}
 use borrow.Author.Needs.{needs}
 use Rattle.matching.proofs.count_sites.Statement.{statement}
 use Rattle.matching.proofs.count_sites.Tie as tie
-use Rattle.matching.proofs.count_sites.Reads as reads
-use Rattle.matching.proofs.count_sites.Lts as lts
 
--- src/lib.rt:156:1
 returns : tie.Need-returns
 returns c = let low : c .args .set < 4294967296 = search needs in (sites-ones (c .args .set) low, ones-le 32 (c .args .set) low)
 

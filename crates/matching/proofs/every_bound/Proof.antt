@@ -12,25 +12,16 @@ use Rattle.matching.proofs.Index.{rows-all}
 use borrow.Author.Needs.{needs}
 use Rattle.matching.proofs.every_bound.Statement.{statement}
 use Rattle.matching.proofs.every_bound.Tie as tie
-use Rattle.matching.proofs.every_bound.Reads as reads
-use Rattle.matching.proofs.every_bound.Lts as lts
-use Rattle.matching.proofs.chosen.Reads as chosen-reads
-use Rattle.matching.proofs.narrowed.Reads as narrowed-reads
-use Rattle.matching.proofs.same_rows.Reads as same-rows-reads
 
--- src/lib.rt:434:9
 chosen-requires : tie.Need-chosen-requires
 chosen-requires c κs = search needs
 
--- src/lib.rt:435:9
 narrowed-requires : tie.Need-narrowed-requires
 narrowed-requires c κs = search needs
 
--- src/lib.rt:436:5
 same-rows-requires : tie.Need-same-rows-requires
 same-rows-requires c κs = search needs
 
--- src/lib.rt:430:1
 returns : tie.Need-returns
 unfolding rowsView
 returns c =

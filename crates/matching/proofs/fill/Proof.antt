@@ -7,9 +7,6 @@ use Rattle.matching.proofs.Index.{indexed-none, indexed-more}
 use borrow.Author.Needs.{needs}
 use Rattle.matching.proofs.fill.Statement.{statement}
 use Rattle.matching.proofs.fill.Tie as tie
-use Rattle.matching.proofs.fill.Reads as reads
-use Rattle.matching.proofs.fill.Lts as lts
-use Rattle.matching.proofs.put_row.Reads as put-row-reads
 
 abbrev Inv-loop : tie.InvT-loop
 Inv-loop index₀ rows n i₀ index i = (i ≤ n) × (length index ≡ 768) × Indexed i rows index
@@ -17,23 +14,18 @@ Inv-loop index₀ rows n i₀ index i = (i ≤ n) × (length index ≡ 768) × I
 abbrev μ-loop : tie.MeasureT-loop
 μ-loop index₀ rows n i₀ index i = n - i
 
--- src/lib.rt:291:5
 loop-holds : tie.Need-loop-holds Inv-loop μ-loop
 loop-holds c = (omega arith, ap length (c .pre .2), rw (c .pre .2) (indexed-none (c .args .rows .now)))
 
--- src/lib.rt:292:9
 put-row-requires : tie.Need-put-row-requires Inv-loop μ-loop
 put-row-requires c κs = search needs
 
--- src/lib.rt:293:9
 add-i : tie.Need-add-i Inv-loop μ-loop
 add-i c = search needs
 
--- src/lib.rt:291:5
 loop-less : tie.Need-loop-less Inv-loop μ-loop
 loop-less c = omega arith
 
--- src/lib.rt:291:5
 loop-again : tie.Need-loop-again Inv-loop μ-loop
 loop-again c =
     let at = c .before .before .before .loop in
@@ -42,7 +34,6 @@ loop-again c =
     let k : at .i + 1 ≡ at .i + 1 = refl in
     (omega arith, e .long ∙ at .inv .1, indexed-more (s .args .rows .now) (at .index) _ (at .i) (at .i + 1) k (at .inv .2) e)
 
--- src/lib.rt:286:1
 returns : tie.Need-returns Inv-loop μ-loop
 returns c =
     let at = c .before .loop in

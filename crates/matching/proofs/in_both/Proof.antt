@@ -8,10 +8,7 @@ use Rattle.matching.specs.Index.{words, inRows}
 use Rattle.matching.proofs.Index.{four-by}
 use Rattle.matching.proofs.in_both.Statement.{statement}
 use Rattle.matching.proofs.in_both.Tie as tie
-use Rattle.matching.proofs.in_both.Reads as reads
-use Rattle.matching.proofs.in_both.Lts as lts
 
--- src/lib.rt:324:1
 returns : tie.Need-returns
 unfolding inRows words meet
 returns c = λ i h. four-by bitAnd _&_ (i % 64) (λ a b. has-and a b (i % 64)) _ _ _ _ _ _ _ _ (i / 64) (omega arith)

@@ -8,10 +8,7 @@ use Rattle.matching.specs.Index.{words, inRows}
 use Rattle.matching.proofs.Index.{four-by}
 use Rattle.matching.proofs.in_either.Statement.{statement}
 use Rattle.matching.proofs.in_either.Tie as tie
-use Rattle.matching.proofs.in_either.Reads as reads
-use Rattle.matching.proofs.in_either.Lts as lts
 
--- src/lib.rt:335:1
 returns : tie.Need-returns
 unfolding inRows words join
 returns c = λ i h. four-by bitOr either (i % 64) (λ a b. has-or a b (i % 64)) _ _ _ _ _ _ _ _ (i / 64) (omega arith)

@@ -7,26 +7,19 @@ use Rattle.matching.specs.Index.{words, inRows}
 use Rattle.matching.proofs.Index.{mem-less, four-by}
 use Rattle.matching.proofs.in_first.Statement.{statement}
 use Rattle.matching.proofs.in_first.Tie as tie
-use Rattle.matching.proofs.in_first.Reads as reads
-use Rattle.matching.proofs.in_first.Lts as lts
 
--- src/lib.rt:338:12
 sub-t4 : tie.Need-sub-t4
 sub-t4 c = and-le-l _ _
 
--- src/lib.rt:339:12
 sub-t6 : tie.Need-sub-t6
 sub-t6 c = and-le-l _ _
 
--- src/lib.rt:340:12
 sub-t8 : tie.Need-sub-t8
 sub-t8 c = and-le-l _ _
 
--- src/lib.rt:341:12
 sub-t10 : tie.Need-sub-t10
 sub-t10 c = and-le-l _ _
 
--- src/lib.rt:334:1
 returns : tie.Need-returns
 unfolding inRows words
 returns c = λ i h. four-by (λ a b. a - bitAnd a b) (λ x y. x & not y) (i % 64) (mem-less (i % 64)) _ _ _ _ _ _ _ _ (i / 64) (omega arith)

@@ -7,21 +7,13 @@ use Rattle.matching.proofs.Index.{kept-some, kept-rest}
 use borrow.Author.Needs.{needs}
 use Rattle.matching.proofs.kept.Statement.{statement}
 use Rattle.matching.proofs.kept.Tie as tie
-use Rattle.matching.proofs.kept.Reads as reads
-use Rattle.matching.proofs.kept.Lts as lts
-use Rattle.matching.proofs.in_both.Reads as in-both-reads
-use Rattle.matching.proofs.in_first.Reads as in-first-reads
-use Rattle.matching.proofs.rows_in.Reads as rows-in-reads
 
--- src/lib.rt:371:29
 rows-in-requires : tie.Need-rows-in-requires
 rows-in-requires c κs = search needs
 
--- src/lib.rt:371:9
 in-both-requires : tie.Need-in-both-requires
 in-both-requires c κs = search needs
 
--- src/lib.rt:371:9
 returns : tie.Need-returns
 returns c =
     let s = c .before .before .before in
@@ -30,19 +22,15 @@ returns c =
     ∙ ap (λ (b : Bool). inRows (words (s .args .had)) i & b) (c .before .rows-in .ensures n bs I i h)
     ∙ kept-some (inRows (words (s .args .had)) i) i n (inColumn bs (s .args .c) i) (s .args .set) f
 
--- src/lib.rt:373:37
 sub-rows-in : tie.Need-sub-rows-in
 sub-rows-in c = search needs
 
--- src/lib.rt:373:19
 rows-in-requires-2 : tie.Need-rows-in-requires-2
 rows-in-requires-2 c κs = search needs
 
--- src/lib.rt:373:5
 in-first-requires : tie.Need-in-first-requires
 in-first-requires c κs = search needs
 
--- src/lib.rt:366:1
 returns-2 : tie.Need-returns-2
 returns-2 c =
     let s = c .before .before .before in

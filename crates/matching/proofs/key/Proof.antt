@@ -6,16 +6,10 @@ use Rattle.matching.proofs.Index.{key-first, key-later}
 use borrow.Author.Needs.{needs}
 use Rattle.matching.proofs.key.Statement.{statement}
 use Rattle.matching.proofs.key.Tie as tie
-use Rattle.matching.proofs.key.Reads as reads
-use Rattle.matching.proofs.key.Lts as lts
-use Rattle.matching.proofs.row_len.Reads as row-len-reads
-use Rattle.matching.proofs.wide.Reads as wide-reads
 
--- src/lib.rt:274:9
 row-len-requires : tie.Need-row-len-requires
 row-len-requires c κs = search needs
 
--- src/lib.rt:274:9
 returns : tie.Need-returns
 returns c =
     let s = c .before .before in
@@ -23,23 +17,18 @@ returns c =
     let long = row-long (s .args .rows .now) (s .args .i) (s .pre .0) (s .pre .2) in
     (e ∙ key-first (s .args .rows .now) (s .args .c) (s .args .i) (c .before .if1 .taken), omega arith)
 
--- src/lib.rt:276:15
 mul-wide : tie.Need-mul-wide
 mul-wide c = search needs
 
--- src/lib.rt:276:15
 add-wide : tie.Need-add-wide
 add-wide c = search needs
 
--- src/lib.rt:276:10
 element-copy-out-wide : tie.Need-element-copy-out-wide
 element-copy-out-wide c = search needs
 
--- src/lib.rt:276:5
 wide-requires : tie.Need-wide-requires
 wide-requires c κs = search needs
 
--- src/lib.rt:269:1
 returns-2 : tie.Need-returns-2
 returns-2 c =
     let s = c .before .before .before in

@@ -15,9 +15,6 @@ use Rattle.matching.proofs.Index.{key-low, narrow-end, narrow-down}
 use borrow.Author.Needs.{needs}
 use Rattle.matching.proofs.narrowed.Statement.{statement}
 use Rattle.matching.proofs.narrowed.Tie as tie
-use Rattle.matching.proofs.narrowed.Reads as reads
-use Rattle.matching.proofs.narrowed.Lts as lts
-use Rattle.matching.proofs.kept.Reads as kept-reads
 
 abbrev Inv-loop : tie.InvT-loop
 Inv-loop index m reaches r₀ j₀ r j = (j ≤ m) × ((n : ℕ) (bs : List ℕ) → Indexed n bs index → Low n bs → Long n bs m (words r₀) → (i : ℕ) → i < 256 → inRows (words r) i ≡ (inRows (words r₀) i & fits (drop j (Sets reaches m)) (drop j (rowAt bs i))))
@@ -25,37 +22,29 @@ Inv-loop index m reaches r₀ j₀ r j = (j ≤ m) × ((n : ℕ) (bs : List ℕ)
 abbrev μ-loop : tie.MeasureT-loop
 μ-loop index m reaches r₀ j₀ r j = j
 
--- src/lib.rt:387:5
 loop-holds : tie.Need-loop-holds Inv-loop μ-loop
 loop-holds c =
     let five : length (c .args .t3) ≡ 5 = search needs in
     (omega arith, λ n bs I L F i h. narrow-end (c .args .t3) bs n (c .args .m) i h five (c .pre .0) L (inRows (words (c .args .had)) i) (F i h))
 
--- src/lib.rt:388:9
 sub-j : tie.Need-sub-j Inv-loop μ-loop
 sub-j c = search needs
 
--- src/lib.rt:389:28
 add-kept : tie.Need-add-kept Inv-loop μ-loop
 add-kept c = search needs
 
--- src/lib.rt:389:35
 mul-kept : tie.Need-mul-kept Inv-loop μ-loop
 mul-kept c = search needs
 
--- src/lib.rt:389:35
 array-read-kept : tie.Need-array-read-kept Inv-loop μ-loop
 array-read-kept c = search needs
 
--- src/lib.rt:389:9
 kept-requires : tie.Need-kept-requires Inv-loop μ-loop
 kept-requires c κs = search needs
 
--- src/lib.rt:387:5
 loop-less : tie.Need-loop-less Inv-loop μ-loop
 loop-less c = omega arith
 
--- src/lib.rt:387:5
 loop-again : tie.Need-loop-again Inv-loop μ-loop
 loop-again c =
     let at = c .before .before .loop in
@@ -70,7 +59,6 @@ loop-again c =
           ∙ narrow-down (s .args .t3) bs n (s .args .m) i h five (s .pre .0) L (at .j) (omega arith) (omega arith) had (F i h),
     )
 
--- src/lib.rt:381:1
 returns : tie.Need-returns Inv-loop μ-loop
 returns c =
     let at = c .before .loop in

@@ -8,10 +8,6 @@ use Rattle.matching.proofs.Index.{entered-none, entered-more, bit-one}
 use borrow.Author.Needs.{needs}
 use Rattle.matching.proofs.put_row.Statement.{statement}
 use Rattle.matching.proofs.put_row.Tie as tie
-use Rattle.matching.proofs.put_row.Reads as reads
-use Rattle.matching.proofs.put_row.Lts as lts
-use Rattle.matching.proofs.key.Reads as key-reads
-use Rattle.matching.proofs.put.Reads as put-reads
 
 abbrev Inv-loop : tie.InvT-loop
 Inv-loop index₀ rows i bit c₀ index c = (c ≤ 6) × (length index ≡ 768) × (bit ≡ 2 ^ (i % 64)) × Entered rows i c index₀ index
@@ -19,47 +15,36 @@ Inv-loop index₀ rows i bit c₀ index c = (c ≤ 6) × (length index ≡ 768) 
 abbrev μ-loop : tie.MeasureT-loop
 μ-loop index₀ rows i bit c₀ index c = 6 - c
 
--- src/lib.rt:291:15
 shl-bit : tie.Need-shl-bit Inv-loop μ-loop
 shl-bit c = search needs
 
--- src/lib.rt:293:5
 loop-holds : tie.Need-loop-holds Inv-loop μ-loop
 loop-holds c = (omega arith, c .pre .2, bit-one (c .args .i % 64) (omega arith), entered-none _ _ _)
 
--- src/lib.rt:294:20
 mul-put : tie.Need-mul-put Inv-loop μ-loop
 mul-put c = search needs
 
--- src/lib.rt:294:34
 key-requires : tie.Need-key-requires Inv-loop μ-loop
 key-requires c κs = search needs
 
--- src/lib.rt:294:30
 mul-put-2 : tie.Need-mul-put-2 Inv-loop μ-loop
 mul-put-2 c = search needs
 
--- src/lib.rt:294:20
 add-put : tie.Need-add-put Inv-loop μ-loop
 add-put c = search needs
 
--- src/lib.rt:294:20
 add-put-2 : tie.Need-add-put-2 Inv-loop μ-loop
 add-put-2 c = search needs
 
--- src/lib.rt:294:9
 put-requires : tie.Need-put-requires Inv-loop μ-loop
 put-requires c κs = search needs
 
--- src/lib.rt:295:9
 add-c : tie.Need-add-c Inv-loop μ-loop
 add-c c = search needs
 
--- src/lib.rt:293:5
 loop-less : tie.Need-loop-less Inv-loop μ-loop
 loop-less c = omega arith
 
--- src/lib.rt:293:5
 loop-again : tie.Need-loop-again Inv-loop μ-loop
 loop-again c =
     let at = c .before .before .before .before .loop in
@@ -69,7 +54,6 @@ loop-again c =
     let t = c .put .ensures in
     (omega arith, ap length t ∙ e .long ∙ s .pre .2, at .inv .2, subst (λ (x : List ℕ). Entered (s .args .rows .now) (s .args .i) (at .c + 1) (s .args .index .now) x) (sym t) e)
 
--- src/lib.rt:287:1
 returns : tie.Need-returns Inv-loop μ-loop
 returns c =
     let at = c .before .loop in

@@ -3,29 +3,21 @@ use native.Mathlib.Omega.{arith}
 use Rattle.matching.proofs.Laws.{row-long}
 use Rattle.matching.proofs.row_len.Statement.{statement}
 use Rattle.matching.proofs.row_len.Tie as tie
-use Rattle.matching.proofs.row_len.Reads as reads
-use Rattle.matching.proofs.row_len.Lts as lts
-use Rattle.matching.proofs.wide.Reads as wide-reads
 
--- src/lib.rt:51:23
 mul-wide : tie.Need-mul-wide
 mul-wide c = search needs
 
--- src/lib.rt:51:18
 element-copy-out-wide : tie.Need-element-copy-out-wide
 element-copy-out-wide c = search needs
 
--- src/lib.rt:51:9
 wide-requires : tie.Need-wide-requires
 wide-requires c κs = search needs
 
--- src/lib.rt:47:1
 returns : tie.Need-returns
 returns c =
     let s = c .before .before .before in
     omega (arith, row-long (s .args .rows .now) (s .args .i) (s .pre .0) (s .pre .1), c .before .wide .ensures)
 
--- src/lib.rt:47:1
 returns-2 : tie.Need-returns-2
 returns-2 c =
     let s = c .before .before .before in

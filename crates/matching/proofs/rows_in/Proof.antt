@@ -23,7 +23,6 @@ Inv-loop index c set r₀ rest₀ r rest = (rest < 4294967296) × ((u : ℕ) →
 abbrev μ-loop : tie.MeasureT-loop
 μ-loop index c set r₀ rest₀ r rest = rest
 
--- src/lib.rt:344:5
 loop-holds : tie.Need-loop-holds Inv-loop μ-loop
 unfolding words
 loop-holds c =
@@ -39,25 +38,20 @@ next c =
 cast-rows-with : tie.Need-cast-rows-with Inv-loop μ-loop
 cast-rows-with c = let low = next c in search needs
 
--- src/lib.rt:346:26
 rows-with-requires : tie.Need-rows-with-requires Inv-loop μ-loop
 rows-with-requires c κs = let s = c .before .before in (s .pre .0, next c, s .pre .1)
 
--- src/lib.rt:346:9
 in-either-requires : tie.Need-in-either-requires Inv-loop μ-loop
 in-either-requires c κs = search needs
 
--- src/lib.rt:347:24
 sub-rest : tie.Need-sub-rest Inv-loop μ-loop
 sub-rest c = search needs
 
--- src/lib.rt:344:5
 loop-less : tie.Need-loop-less Inv-loop μ-loop
 loop-less c =
     let at = c .before .before .before .loop in
     rest-less (c .before .before .before .before .args .set) (at .rest) (c .before .before .loop-test .taken) (at .inv .0) (at .inv .1)
 
--- src/lib.rt:344:5
 loop-again : tie.Need-loop-again Inv-loop μ-loop
 loop-again c =
     let at = c .before .before .before .loop in
@@ -72,7 +66,6 @@ loop-again c =
           ∙ turn (s .args .set) (at .rest) some (at .inv .0) (at .inv .1) n (inColumn bs (s .args .c) i) i,
     )
 
--- src/lib.rt:333:1
 returns : tie.Need-returns Inv-loop μ-loop
 returns c =
     let at = c .before .loop in

@@ -7,66 +7,49 @@ use Rattle.matching.proofs.Index.{four-at}
 use borrow.Author.Needs.{needs}
 use Rattle.matching.proofs.rows_with.Statement.{statement}
 use Rattle.matching.proofs.rows_with.Tie as tie
-use Rattle.matching.proofs.rows_with.Reads as reads
-use Rattle.matching.proofs.rows_with.Lts as lts
 
--- src/lib.rt:302:14
 mul-at : tie.Need-mul-at
 mul-at c = search needs
 
--- src/lib.rt:302:29
 mul-at-2 : tie.Need-mul-at-2
 mul-at-2 c = search needs
 
--- src/lib.rt:302:14
 add-at : tie.Need-add-at
 add-at c = search needs
 
--- src/lib.rt:303:13
 mul-a : tie.Need-mul-a
 mul-a c = search needs
 
--- src/lib.rt:303:13
 element-copy-out-a : tie.Need-element-copy-out-a
 element-copy-out-a c = search needs
 
--- src/lib.rt:304:19
 add-b : tie.Need-add-b
 add-b c = search needs
 
--- src/lib.rt:304:13
 mul-b : tie.Need-mul-b
 mul-b c = search needs
 
--- src/lib.rt:304:13
 element-copy-out-b : tie.Need-element-copy-out-b
 element-copy-out-b c = search needs
 
--- src/lib.rt:305:19
 add-c : tie.Need-add-c
 add-c c = search needs
 
--- src/lib.rt:305:13
 mul-c : tie.Need-mul-c
 mul-c c = search needs
 
--- src/lib.rt:305:13
 element-copy-out-c : tie.Need-element-copy-out-c
 element-copy-out-c c = search needs
 
--- src/lib.rt:306:19
 add-d : tie.Need-add-d
 add-d c = search needs
 
--- src/lib.rt:306:13
 mul-d : tie.Need-mul-d
 mul-d c = search needs
 
--- src/lib.rt:306:13
 element-copy-out-d : tie.Need-element-copy-out-d
 element-copy-out-d c = search needs
 
--- src/lib.rt:298:1
 returns : tie.Need-returns
 unfolding inRows inIndex words
 returns c =

@@ -5,10 +5,7 @@ use Rattle.matching.proofs.Index.{word-differs, words-same}
 use borrow.Author.Needs.{needs}
 use Rattle.matching.proofs.same_rows.Statement.{statement}
 use Rattle.matching.proofs.same_rows.Tie as tie
-use Rattle.matching.proofs.same_rows.Reads as reads
-use Rattle.matching.proofs.same_rows.Lts as lts
 
--- src/lib.rt:435:9
 returns : tie.Need-returns
 unfolding words
 returns c =
@@ -17,7 +14,6 @@ returns c =
     let q : ar .y .a < 2 ^ 64 = search needs in
     word-differs (words (ar .x)) (words (ar .y)) 0 (omega arith) p q (c .if1 .taken)
 
--- src/lib.rt:438:9
 returns-2 : tie.Need-returns-2
 unfolding words
 returns-2 c =
@@ -26,7 +22,6 @@ returns-2 c =
     let q : ar .y .b < 2 ^ 64 = search needs in
     word-differs (words (ar .x)) (words (ar .y)) 1 (omega arith) p q (c .if2 .taken)
 
--- src/lib.rt:441:9
 returns-3 : tie.Need-returns-3
 unfolding words
 returns-3 c =
@@ -35,7 +30,6 @@ returns-3 c =
     let q : ar .y .c < 2 ^ 64 = search needs in
     word-differs (words (ar .x)) (words (ar .y)) 2 (omega arith) p q (c .if3 .taken)
 
--- src/lib.rt:431:1
 returns-4 : tie.Need-returns-4
 unfolding words
 returns-4 c =

@@ -6,10 +6,7 @@ use Rattle.matching.proofs.Index.{some-word, last-word}
 use borrow.Author.Needs.{needs}
 use Rattle.matching.proofs.some_row.Statement.{statement}
 use Rattle.matching.proofs.some_row.Tie as tie
-use Rattle.matching.proofs.some_row.Reads as reads
-use Rattle.matching.proofs.some_row.Lts as lts
 
--- src/lib.rt:419:9
 returns : tie.Need-returns
 unfolding words
 returns c =
@@ -17,7 +14,6 @@ returns c =
     let p : ar .rows .a < 2 ^ 64 = search needs in
     sym (some-word (words (ar .rows)) 0 (omega arith) (c .if1 .taken) p)
 
--- src/lib.rt:422:9
 returns-2 : tie.Need-returns-2
 unfolding words
 returns-2 c =
@@ -25,7 +21,6 @@ returns-2 c =
     let p : ar .rows .b < 2 ^ 64 = search needs in
     sym (some-word (words (ar .rows)) 1 (omega arith) (c .if2 .taken) p)
 
--- src/lib.rt:425:9
 returns-3 : tie.Need-returns-3
 unfolding words
 returns-3 c =
@@ -33,7 +28,6 @@ returns-3 c =
     let p : ar .rows .c < 2 ^ 64 = search needs in
     sym (some-word (words (ar .rows)) 2 (omega arith) (c .if3 .taken) p)
 
--- src/lib.rt:415:1
 returns-4 : tie.Need-returns-4
 unfolding words
 returns-4 c =

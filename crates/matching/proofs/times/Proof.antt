@@ -3,18 +3,13 @@ use native.Mathlib.Omega.{arith}
 use native.Mathlib.Nat.{mul-le-mul}
 use Rattle.matching.proofs.times.Statement.{statement}
 use Rattle.matching.proofs.times.Tie as tie
-use Rattle.matching.proofs.times.Reads as reads
-use Rattle.matching.proofs.times.Lts as lts
 
--- src/lib.rt:107:13
 mul-r : tie.Need-mul-r
 mul-r c = omega (arith, mul-le-mul (c .pre .0) (c .pre .1))
 
--- src/lib.rt:103:1
 returns : tie.Need-returns
 returns c = search needs
 
--- src/lib.rt:103:1
 returns-2 : tie.Need-returns-2
 returns-2 c = search needs
 

@@ -11,9 +11,6 @@ use Rattle.ready.proofs.Laws.{row-here, row-nowhere, none-more}
 use borrow.Author.Needs.{needs}
 use Rattle.ready.proofs.some_agrees.Statement.{statement}
 use Rattle.ready.proofs.some_agrees.Tie as tie
-use Rattle.ready.proofs.some_agrees.Reads as reads
-use Rattle.ready.proofs.some_agrees.Lts as lts
-use Rattle.tuples.proofs.agrees.Reads as agrees-reads
 
 abbrev Inv-loop : tie.InvT-loop
 Inv-loop lines tuples n th target count q m₀ m = (m ≤ n) × ((j : ℕ) → j < m → agrees (threadView th) target (map slotOf (take count (fieldBytes lines (th .line)))) (rowAt tuples j) ≡ false)
@@ -21,36 +18,29 @@ Inv-loop lines tuples n th target count q m₀ m = (m ≤ n) × ((j : ℕ) → j
 abbrev μ-loop : tie.MeasureT-loop
 μ-loop lines tuples n th target count q m₀ m = n - m
 
--- src/lib.rt:75:5
 loop-holds : tie.Need-loop-holds Inv-loop μ-loop
 loop-holds c = (omega arith, λ j h. absurd (omega arith))
 
--- src/lib.rt:76:12
 agrees-requires : tie.Need-agrees-requires Inv-loop μ-loop
 agrees-requires c κs = search needs
 
--- src/lib.rt:77:13
 returns : tie.Need-returns Inv-loop μ-loop
 returns c =
     let ar = c .before .before .before .before .args in
     row-here _ (ar .n) (ar .tuples .now) (c .before .before .before .loop .m) (omega arith) (sym (c .before .agrees .ensures) ∙ c .if1 .taken)
 
--- src/lib.rt:79:9
 add-m : tie.Need-add-m Inv-loop μ-loop
 add-m c = search needs
 
--- src/lib.rt:75:5
 loop-less : tie.Need-loop-less Inv-loop μ-loop
 loop-less c = search needs
 
--- src/lib.rt:75:5
 loop-again : tie.Need-loop-again Inv-loop μ-loop
 loop-again c =
     let at = c .before .before .before .loop in
     let e : suc (at .m) ≡ at .m + 1 = omega arith in
     (omega arith, none-more (at .inv .1) (sym (c .before .agrees .ensures) ∙ c .if1 .left) (at .m + 1) e)
 
--- src/lib.rt:62:1
 returns-2 : tie.Need-returns-2 Inv-loop μ-loop
 returns-2 c =
     let ar = c .before .before .args in

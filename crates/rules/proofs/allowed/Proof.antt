@@ -2,34 +2,25 @@ use borrow.Author.Needs.{needs}
 use Rattle.rules.proofs.Sets.{low-slot, allowed-value, allowed-bind}
 use Rattle.rules.proofs.allowed.Statement.{statement}
 use Rattle.rules.proofs.allowed.Tie as tie
-use Rattle.rules.proofs.allowed.Reads as reads
-use Rattle.rules.proofs.allowed.Lts as lts
 
--- src/lib.rt:38:27
 enum-told : tie.Need-enum-told
 enum-told c = search needs
 
--- src/lib.rt:39:20
 enum-known-slot : tie.Need-enum-known-slot
 enum-known-slot c = search needs
 
--- src/lib.rt:40:22
 cast-at : tie.Need-cast-at
 cast-at c = search needs
 
--- src/lib.rt:41:13
 mul-result : tie.Need-mul-result
 mul-result c = search needs
 
--- src/lib.rt:41:13
 element-copy-out-result : tie.Need-element-copy-out-result
 element-copy-out-result c = low-slot (c .before .before .slot .given .1) (c .before .before .before .before .pre)
 
--- src/lib.rt:33:1
 returns : tie.Need-returns
 returns c = λ E e. allowed-value E (c .enum-told .given .1)
 
--- src/lib.rt:33:1
 returns-2 : tie.Need-returns-2
 returns-2 c = λ E e. allowed-bind E _ e (c .before .before .before .slot .given .1)
 

@@ -3,27 +3,19 @@ use borrow.Author.Needs.{needs}
 use Rattle.rules.proofs.Sets.{low-slot, wanted-value, wanted-bind}
 use Rattle.rules.proofs.wanted.Statement.{statement}
 use Rattle.rules.proofs.wanted.Tie as tie
-use Rattle.rules.proofs.wanted.Reads as reads
-use Rattle.rules.proofs.wanted.Lts as lts
-use Rattle.flow.proofs.reach.Reads as reach-reads
 
--- src/lib.rt:27:21
 enum-known-slot : tie.Need-enum-known-slot
 enum-known-slot c = search needs
 
--- src/lib.rt:27:27
 reach-requires : tie.Need-reach-requires
 reach-requires c κs = low-slot (c .before .slot .given .1) (c .before .before .before .pre)
 
--- src/lib.rt:28:26
 enum-told : tie.Need-enum-told
 enum-told c = search needs
 
--- src/lib.rt:22:1
 returns : tie.Need-returns
 returns c = λ E e. c .reach .ensures E e ∙ wanted-value E _ (c .before .before .slot .given .1)
 
--- src/lib.rt:22:1
 returns-2 : tie.Need-returns-2
 returns-2 c = λ E e. wanted-bind E _ (c .enum-told .given .1)
 

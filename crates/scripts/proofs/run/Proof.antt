@@ -1,5 +1,5 @@
 use borrow.Author.Needs.{needs}
-use Rattle.scripts.proofs.Front.{front-long}
+use Rattle.parts.proofs.Parts.{front-long}
 use Rattle.scripts.proofs.run.Statement.{statement}
 use Rattle.scripts.proofs.run.Tie as tie
 

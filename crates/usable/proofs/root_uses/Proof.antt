@@ -3,49 +3,35 @@ use borrow.Author.Needs.{needs}
 use Rattle.usable.proofs.Laws.{root-here, root-away}
 use Rattle.usable.proofs.root_uses.Statement.{statement}
 use Rattle.usable.proofs.root_uses.Tie as tie
-use Rattle.usable.proofs.root_uses.Reads as reads
-use Rattle.usable.proofs.root_uses.Lts as lts
-use Rattle.flow.proofs.UseMap.empty.Reads as empty-reads
-use Rattle.flow.proofs.use_map.Reads as use-map-reads
-use Rattle.sets.proofs.single.Reads as single-reads
 
--- src/lib.rt:31:14
 mul-at : tie.Need-mul-at
 mul-at c = search needs
 
--- src/lib.rt:32:8
 element-copy-out-if1 : tie.Need-element-copy-out-if1
 element-copy-out-if1 c = search needs
 
--- src/lib.rt:33:13
 single-requires : tie.Need-single-requires
 single-requires c κs = search needs
 
--- src/lib.rt:34:68
 add-use-map : tie.Need-add-use-map
 add-use-map c = search needs
 
--- src/lib.rt:34:62
 element-copy-out-use-map : tie.Need-element-copy-out-use-map
 element-copy-out-use-map c = search needs
 
--- src/lib.rt:34:9
 use-map-requires : tie.Need-use-map-requires
 use-map-requires c κs =
     let s = c .before .before .before .before in
     record { inOrder = s .pre .0 .inOrder; present = s .pre .0 .present (s .args .i) (s .pre .1) }
 
--- src/lib.rt:34:9
 returns : tie.Need-returns
 returns c =
     let s = c .before .before .before .before .before in
     λ N E b v l. c .use-map .ensures N E b v ∙ root-here N E (s .args .roots .now) (s .args .lines .now) (s .args .n) (s .args .i) (s .args .s) l (c .before .before .single .ensures) (c .before .before .before .if1 .taken)
 
--- src/lib.rt:36:5
 empty-requires : tie.Need-empty-requires
 empty-requires c κs = search needs
 
--- src/lib.rt:18:1
 returns-2 : tie.Need-returns-2
 returns-2 c =
     let s = c .before .before .before in

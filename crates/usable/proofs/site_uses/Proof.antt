@@ -1,4 +1,4 @@
-use mathlib.Core.Path.{_≡_, refl, sym, ap, _∙_}
+use mathlib.Core.Path.{_≡_, sym, ap, _∙_}
 use Prim.Native.Nat.{ℕ, _≤_, _-_}
 use native.Mathlib.Omega.{arith}
 use lib.Dec.{eqb}
@@ -15,11 +15,6 @@ use Rattle.usable.proofs.Laws.{joins-end, joins-back}
 use borrow.Author.Needs.{needs}
 use Rattle.usable.proofs.site_uses.Statement.{statement}
 use Rattle.usable.proofs.site_uses.Tie as tie
-use Rattle.usable.proofs.site_uses.Reads as reads
-use Rattle.usable.proofs.site_uses.Lts as lts
-use Rattle.flow.proofs.UseMap.empty.Reads as empty-reads
-use Rattle.flow.proofs.UseMap.join.Reads as join-reads
-use Rattle.usable.proofs.root_uses.Reads as root-uses-reads
 
 -- what a root at site s uses on t
 abbrev part : Net → Estimate → ℕ → ℕ → Root → ℕ
@@ -31,35 +26,28 @@ Inv-loop roots m lines n boxes binds s r₀ i₀ r i = (i ≤ m) × ((N : Net) (
 abbrev μ-loop : tie.MeasureT-loop
 μ-loop roots m lines n boxes binds s r₀ i₀ r i = i
 
--- src/lib.rt:52:9
 empty-requires : tie.Need-empty-requires Inv-loop μ-loop
 empty-requires c κs = search needs
 
--- src/lib.rt:54:5
 loop-holds : tie.Need-loop-holds Inv-loop μ-loop
 loop-holds c =
     let s = c .before in
     (omega arith, λ N E b v l. c .empty .ensures ∙ same-table 32 _ _ 0 (λ t h. sym (joins-end (part N E (s .args .s) t) (s .args .m) (rootAt (s .args .roots .now)))))
 
--- src/lib.rt:55:9
 sub-i : tie.Need-sub-i Inv-loop μ-loop
 sub-i c = search needs
 
--- src/lib.rt:56:13
 root-uses-requires : tie.Need-root-uses-requires Inv-loop μ-loop
 root-uses-requires c κs =
     let s = c .before .before .before in
     (s .pre .0, omega arith, s .pre .1)
 
--- src/lib.rt:57:9
 join-requires : tie.Need-join-requires Inv-loop μ-loop
 join-requires c κs = search needs
 
--- src/lib.rt:54:5
 loop-less : tie.Need-loop-less Inv-loop μ-loop
 loop-less c = omega arith
 
--- src/lib.rt:54:5
 loop-again : tie.Need-loop-again Inv-loop μ-loop
 loop-again c =
     let at = c .before .before .before .loop in
@@ -71,7 +59,6 @@ loop-again c =
           ∙ same-table 32 _ _ 0 (λ t h. joins-back (part N E (s .args .s) t) (s .args .m) (rootAt (s .args .roots .now)) (at .i) (omega arith) (omega arith)),
     )
 
--- src/lib.rt:40:1
 returns : tie.Need-returns Inv-loop μ-loop
 unfolding rootsView
 returns c =

@@ -3,20 +3,13 @@ use borrow.Author.Needs.{needs}
 use Rattle.usable.proofs.Laws.{usable-table}
 use Rattle.usable.proofs.usable_at.Statement.{statement}
 use Rattle.usable.proofs.usable_at.Tie as tie
-use Rattle.usable.proofs.usable_at.Reads as reads
-use Rattle.usable.proofs.usable_at.Lts as lts
-use Rattle.usable.proofs.site_uses.Reads as site-uses-reads
-use Rattle.usable.proofs.with_holds.Reads as with-holds-reads
 
--- src/lib.rt:93:9
 site-uses-requires : tie.Need-site-uses-requires
 site-uses-requires c κs = search needs
 
--- src/lib.rt:94:5
 with-holds-requires : tie.Need-with-holds-requires
 with-holds-requires c κs = search needs
 
--- src/lib.rt:80:1
 returns : tie.Need-returns
 returns c =
     let s = c .before .before in

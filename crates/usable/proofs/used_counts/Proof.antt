@@ -14,10 +14,6 @@ use Rattle.usable.specs.Rights.{Rights}
 use borrow.Author.Needs.{needs}
 use Rattle.usable.proofs.used_counts.Statement.{statement}
 use Rattle.usable.proofs.used_counts.Tie as tie
-use Rattle.usable.proofs.used_counts.Reads as reads
-use Rattle.usable.proofs.used_counts.Lts as lts
-use Rattle.counts.proofs.used_count.Reads as used-count-reads
-use Rattle.usable.proofs.usable_at.Reads as usable-at-reads
 
 abbrev Inv-loop : tie.InvT-loop
 Inv-loop homes roots m lines n boxes binds hold r₀ s₀ r s = (s ≤ 32) × ((w : World) → w .net .homes ≡ homes → Rights w roots m lines n boxes binds hold → Filled 0 (usedCount w) (replicate 32 0) r s)
@@ -25,45 +21,35 @@ Inv-loop homes roots m lines n boxes binds hold r₀ s₀ r s = (s ≤ 32) × ((
 abbrev μ-loop : tie.MeasureT-loop
 μ-loop homes roots m lines n boxes binds hold r₀ s₀ r s = 32 - s
 
--- src/lib.rt:113:5
 loop-holds : tie.Need-loop-holds Inv-loop μ-loop
 loop-holds c = (omega arith, λ w h g. filled-none 0 _ _)
 
--- src/lib.rt:114:13
 usable-at-requires : tie.Need-usable-at-requires Inv-loop μ-loop
 usable-at-requires c κs = search needs
 
--- src/lib.rt:115:18
 cast-at : tie.Need-cast-at Inv-loop μ-loop
 cast-at c = search needs
 
--- src/lib.rt:116:17
 used-count-requires : tie.Need-used-count-requires Inv-loop μ-loop
 used-count-requires c κs = search needs
 
--- src/lib.rt:116:9
 mul-r : tie.Need-mul-r Inv-loop μ-loop
 mul-r c = search needs
 
--- src/lib.rt:116:9
 array-write-r : tie.Need-array-write-r Inv-loop μ-loop
 array-write-r c = search needs
 
--- src/lib.rt:117:9
 add-s : tie.Need-add-s Inv-loop μ-loop
 add-s c = search needs
 
--- src/lib.rt:113:5
 loop-less : tie.Need-loop-less Inv-loop μ-loop
 loop-less c = search needs
 
--- src/lib.rt:113:5
 loop-again : tie.Need-loop-again Inv-loop μ-loop
 loop-again c =
     let at = c .before .before .before .loop in
     (omega arith, λ w h g. filled-more (at .inv .1 w h g) (omega arith) (c .used-count .ensures (w .net) h ∙ ap (λ (u : List ℕ). sum (λ t. size (meet (home (w .net) (at .s) t) (getD u t 0))) (below 32)) (c .before .usable-at .ensures w g) ∙ used-table w (at .s)))
 
--- src/lib.rt:98:1
 returns : tie.Need-returns Inv-loop μ-loop
 returns c =
     let at = c .before .loop in

@@ -1,5 +1,5 @@
-use mathlib.Core.Path.{_≡_, refl, ap}
-use Prim.Native.Nat.{ℕ, _≤_, _<_, _-_, _+_, _*_}
+use mathlib.Core.Path.{_≡_, refl}
+use Prim.Native.Nat.{_≤_, _<_, _-_, _+_, _*_}
 use native.Mathlib.Omega.{arith}
 use lib.ListN.{getD, replicate}
 use Rattle.sets.specs.Bits.{join}
@@ -7,8 +7,6 @@ use Rattle.sets.proofs.Tables.{Filled, filled-none, filled-more, filled-all}
 use borrow.Author.Needs.{needs}
 use Rattle.usable.proofs.with_holds.Statement.{statement}
 use Rattle.usable.proofs.with_holds.Tie as tie
-use Rattle.usable.proofs.with_holds.Reads as reads
-use Rattle.usable.proofs.with_holds.Lts as lts
 
 abbrev Inv-loop : tie.InvT-loop
 Inv-loop hold s rights first r₀ t₀ r t = (t ≤ 32) × (s < 32) × (first ≡ 32 * s) × Filled 0 (λ k. join (getD rights k 0) (getD hold (32 * s + k) 0)) (replicate 32 0) r t
@@ -16,46 +14,36 @@ Inv-loop hold s rights first r₀ t₀ r t = (t ≤ 32) × (s < 32) × (first �
 abbrev μ-loop : tie.MeasureT-loop
 μ-loop hold s rights first r₀ t₀ r t = 32 - t
 
--- src/lib.rt:69:17
 mul-first : tie.Need-mul-first Inv-loop μ-loop
 mul-first c = search needs
 
--- src/lib.rt:72:5
 loop-holds : tie.Need-loop-holds Inv-loop μ-loop
 loop-holds c = (omega arith, omega arith, omega arith, filled-none 0 _ _)
 
--- src/lib.rt:73:16
 array-read-r : tie.Need-array-read-r Inv-loop μ-loop
 array-read-r c = search needs
 
--- src/lib.rt:73:33
 add-r : tie.Need-add-r Inv-loop μ-loop
 add-r c = search needs
 
--- src/lib.rt:73:28
 element-copy-out-r : tie.Need-element-copy-out-r Inv-loop μ-loop
 element-copy-out-r c = search needs
 
--- src/lib.rt:73:9
 array-write-r : tie.Need-array-write-r Inv-loop μ-loop
 array-write-r c = search needs
 
--- src/lib.rt:74:9
 add-t : tie.Need-add-t Inv-loop μ-loop
 add-t c = search needs
 
--- src/lib.rt:72:5
 loop-less : tie.Need-loop-less Inv-loop μ-loop
 loop-less c = search needs
 
--- src/lib.rt:72:5
 loop-again : tie.Need-loop-again Inv-loop μ-loop
 unfolding join
 loop-again c =
     let at = c .before .before .loop in
     (omega arith, at .inv .1, at .inv .2, filled-more (at .inv .3) (omega arith) refl)
 
--- src/lib.rt:64:1
 returns : tie.Need-returns Inv-loop μ-loop
 returns c =
     let e : c .before .loop .t ≡ 32 = omega arith in

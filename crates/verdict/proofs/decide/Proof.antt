@@ -2,20 +2,15 @@ use Rattle.verdict.specs.Verdict.{verdictView}
 use Rattle.verdict.proofs.Laws.{tuple-verdict, line-verdict, no-verdict}
 use Rattle.verdict.proofs.decide.Statement.{statement}
 use Rattle.verdict.proofs.decide.Tie as tie
-use Rattle.verdict.proofs.decide.Reads as reads
-use Rattle.verdict.proofs.decide.Lts as lts
 
--- src/lib.rt:95:9
 returns : tie.Need-returns
 unfolding verdictView
 returns c = tuple-verdict _ _ _ (c .if1 .taken)
 
--- src/lib.rt:98:9
 returns-2 : tie.Need-returns-2
 unfolding verdictView
 returns-2 c = line-verdict _ _ _ (c .before .if1 .left) (c .if2 .taken)
 
--- src/lib.rt:91:1
 returns-3 : tie.Need-returns-3
 unfolding verdictView
 returns-3 c = no-verdict _ _ _ (c .before .if1 .left) (c .if2 .left)

@@ -14,11 +14,6 @@ use Rattle.verdict.proofs.Laws.{least-end, least-down, root-broken}
 use borrow.Author.Needs.{needs}
 use Rattle.verdict.proofs.first_line.Statement.{statement}
 use Rattle.verdict.proofs.first_line.Tie as tie
-use Rattle.verdict.proofs.first_line.Reads as reads
-use Rattle.verdict.proofs.first_line.Lts as lts
-use Rattle.broken.proofs.first_broken.Reads as first-broken-reads
-use Rattle.broken.proofs.lesser.Reads as lesser-reads
-use Rattle.sets.proofs.single.Reads as single-reads
 
 abbrev Inv-loop : tie.InvT-loop
 Inv-loop roots nroots lines nlines boxes binds hold index r₀ i₀ r i = (i ≤ nroots) × ((N : Net) (E : Estimate) → N .boxes ≡ boxes → N .lines ≡ linesView nlines lines → E .binds ≡ binds → E .hold ≡ hold → IndexOf E index → r ≡ lowest (concat (λ x. broken N E (placeSet (x .site)) (process N x)) (drop i (table nroots (rootAt roots)))))
@@ -26,56 +21,44 @@ Inv-loop roots nroots lines nlines boxes binds hold index r₀ i₀ r i = (i ≤
 abbrev μ-loop : tie.MeasureT-loop
 μ-loop roots nroots lines nlines boxes binds hold index r₀ i₀ r i = i
 
--- src/lib.rt:81:5
 loop-holds : tie.Need-loop-holds Inv-loop μ-loop
 loop-holds c = (omega arith, λ N E b l v h z. least-end (λ x. broken N E (placeSet (x .site)) (process N x)) (c .args .nroots) (rootAt (c .args .roots .now)))
 
--- src/lib.rt:82:9
 sub-i : tie.Need-sub-i Inv-loop μ-loop
 sub-i c = search needs
 
--- src/lib.rt:83:41
 mul-single : tie.Need-mul-single Inv-loop μ-loop
 mul-single c = search needs
 
--- src/lib.rt:83:35
 element-copy-out-single : tie.Need-element-copy-out-single Inv-loop μ-loop
 element-copy-out-single c = search needs
 
--- src/lib.rt:83:13
 single-requires : tie.Need-single-requires Inv-loop μ-loop
 single-requires c κs =
     let s = c .before .before .before in
     s .pre .0 .placed (c .before .before .loop .i - 1) (omega arith)
 
--- src/lib.rt:84:96
 mul-first-broken : tie.Need-mul-first-broken Inv-loop μ-loop
 mul-first-broken c = search needs
 
--- src/lib.rt:84:96
 add-first-broken : tie.Need-add-first-broken Inv-loop μ-loop
 add-first-broken c = search needs
 
--- src/lib.rt:84:90
 element-copy-out-first-broken : tie.Need-element-copy-out-first-broken Inv-loop μ-loop
 element-copy-out-first-broken c = search needs
 
--- src/lib.rt:84:13
 first-broken-requires : tie.Need-first-broken-requires Inv-loop μ-loop
 first-broken-requires c κs =
     let s = c .before .before .before .before .before in
     let at = c .before .before .before .before .loop in
     (record { inOrder = s .pre .0 .inOrder; present = s .pre .0 .present (at .i - 1) (omega arith) }, (s .pre .1, s .pre .2))
 
--- src/lib.rt:85:9
 lesser-requires : tie.Need-lesser-requires Inv-loop μ-loop
 lesser-requires c κs = search needs
 
--- src/lib.rt:81:5
 loop-less : tie.Need-loop-less Inv-loop μ-loop
 loop-less c = omega arith
 
--- src/lib.rt:81:5
 loop-again : tie.Need-loop-again Inv-loop μ-loop
 loop-again c =
     let at = c .before .before .before .before .before .before .loop in
@@ -89,7 +72,6 @@ loop-again c =
           ∙ least-down F (s .args .nroots) (rootAt (s .args .roots .now)) (at .i) (omega arith) (omega arith),
     )
 
--- src/lib.rt:65:1
 returns : tie.Need-returns Inv-loop μ-loop
 unfolding rootsView
 returns c =

@@ -7,38 +7,25 @@ use Rattle.verdict.proofs.Laws.{verdict-is}
 use borrow.Author.Needs.{needs}
 use Rattle.verdict.proofs.judge.Statement.{statement}
 use Rattle.verdict.proofs.judge.Tie as tie
-use Rattle.verdict.proofs.judge.Reads as reads
-use Rattle.verdict.proofs.judge.Lts as lts
-use Rattle.matching.proofs.fill.Reads as fill-reads
-use Rattle.verdict.proofs.decide.Reads as decide-reads
-use Rattle.verdict.proofs.first_line.Reads as first-line-reads
-use Rattle.verdict.proofs.first_missing.Reads as first-missing-reads
 
--- src/lib.rt:109:5
 fill-requires : tie.Need-fill-requires
 fill-requires c κs = search needs
 
--- src/lib.rt:110:9
 first-missing-requires : tie.Need-first-missing-requires
 first-missing-requires c κs = search needs
 
--- src/lib.rt:111:9
 first-line-requires : tie.Need-first-line-requires
 first-line-requires c κs = search needs
 
--- src/lib.rt:123:12
 cast-decide : tie.Need-cast-decide
 cast-decide c = search needs
 
--- src/lib.rt:123:22
 cast-decide-2 : tie.Need-cast-decide-2
 cast-decide-2 c = search needs
 
--- src/lib.rt:123:5
 decide-requires : tie.Need-decide-requires
 decide-requires c κs = search needs
 
--- src/lib.rt:92:1
 returns : tie.Need-returns
 returns c =
     let s = c .before .before .before .before .before .before .before in

@@ -2,7 +2,7 @@ use mathlib.Core.Path.{_≡_}
 use mathlib.Core.List.{List}
 use Prim.Native.Nat.{ℕ, suc, _+_, _-_, _≤_}
 use native.Mathlib.Omega.{arith}
-use Rattle.sets.specs.Lists.{concat, table, _∪_}
+use Rattle.sets.specs.Lists.{concat, table, _⧺_}
 use Rattle.klaim.specs.Process.{children}
 use Rattle.tables.specs.View.{lineOf, linesView}
 use Rattle.whole.specs.Counted.{Counted}
@@ -12,7 +12,7 @@ use Rattle.whole.proofs.named_lines.Statement.{statement}
 use Rattle.whole.proofs.named_lines.Tie as tie
 
 abbrev Inv-loop : tie.InvT-loop
-Inv-loop counts₀ lines n q₀ counts q = (q ≤ n) × ((xs : List ℕ) → Counted xs counts₀ → Counted (xs ∪ concat children (table q (lineOf lines))) counts)
+Inv-loop counts₀ lines n q₀ counts q = (q ≤ n) × ((xs : List ℕ) → Counted xs counts₀ → Counted (xs ⧺ concat children (table q (lineOf lines))) counts)
 
 abbrev μ-loop : tie.MeasureT-loop
 μ-loop counts₀ lines n q₀ counts q = n - q

@@ -6,7 +6,7 @@ use mathlib.Core.Path.{sym, ap, _∙_}
 use mathlib.Core.List.{[], _∷_}
 use native.Mathlib.Omega.{arith}
 use lib.ListN.{length}
-use Rattle.sets.specs.Lists.{_∪_}
+use Rattle.sets.specs.Lists.{_⧺_}
 use Rattle.klaim.specs.Listing.{numeral}
 use Rattle.writer.proofs.Wrote.{wrote-then, wrote-as}
 use Rattle.writer.proofs.Numeral.{numeral-digit, numeral-last, length-last}
@@ -72,7 +72,7 @@ put-number-returns-2 t c =
     let r = d .before .before .before .before in
     let s = r .before .before in
     let n = s .before .before .args .n in
-    wrote-as (ap (λ (b : ℕ). numeral (n / 10) ∪ (b ∷ [])) (d .digit2 .ensures) ∙ sym (numeral-last n (s .if1 .left))) (wrote-then (r .put-number .ensures) (p .put-byte2 .ensures))
+    wrote-as (ap (λ (b : ℕ). numeral (n / 10) ⧺ (b ∷ [])) (d .digit2 .ensures) ∙ sym (numeral-last n (s .if1 .left))) (wrote-then (r .put-number .ensures) (p .put-byte2 .ensures))
 
 pub +put-number-spec : {M : Type 1} → statement M
 +put-number-spec = close μ-put-number λ t. put-number-lts.spec (claims t)

@@ -1,6 +1,6 @@
 use borrow.Author.Needs.{needs}
 use native.Mathlib.Omega.{arith}
-use Rattle.sets.specs.Lists.{_∪_}
+use Rattle.sets.specs.Lists.{_⧺_}
 use Rattle.klaim.specs.Listing.{siteName}
 use Rattle.writer.proofs.Wrote.{wrote-then}
 use Rattle.writer.proofs.put_site.Statement.{statement}
@@ -18,7 +18,7 @@ same-length : tie.Need-same-length
 same-length c = search needs
 
 returns : tie.Need-returns
-unfolding siteName _∪_
+unfolding siteName _⧺_
 returns c =
     let w2 = c .before .before in
     let w1 = w2 .before .before .before .before in
