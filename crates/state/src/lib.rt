@@ -59,7 +59,7 @@ pub struct State {
     pub run: Run,
 }
 
-// A refusal, with its row.
+// A refusal, with its row. What stands behind these is of no account.
 pub fn refused(number: u8, row: usize) -> Told
     requires { ⌜ 0 < number ⌝ }
     ensures { λ t. ⌜ answerView t ≡ refusedOf number row ⌝ }
@@ -67,7 +67,7 @@ pub fn refused(number: u8, row: usize) -> Told
     Told {
         number,
         row,
-        event: SILENT,
+        event: PERFORMED,
         site: 0,
         target: 0,
         right: 0,
