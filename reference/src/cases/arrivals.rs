@@ -33,12 +33,21 @@ pub fn friendly(rng: &mut Rng, state: &State, l: Site, d: usize) -> Vec<Line> {
     maker.lines
 }
 
+/// The number of the line behind one; past the last there is none, and it
+/// begins anew, so that such an arrival is refused.
+fn behind(at: usize) -> u8 {
+    (at as u8).wrapping_add(1)
+}
+
 impl Friendly<'_> {
     /// Up to `length` actions at l within `allowed`, then nil; the variables
-    /// of `scope` are bound.
+    /// of `scope` are bound. Past the limit of lines there are no more.
     fn chain(&mut self, l: Site, allowed: &Policy, length: usize, scope: u32) {
         let mut scope = scope;
         for _ in 0..length {
+            if self.lines.len() >= MAX_LINES {
+                break;
+            }
             let choices: Vec<(Site, u8)> = members(below(self.state.net.sites))
                 .flat_map(|t| ACTIONS.map(|right| (t, right)))
                 .filter(|&(t, right)| allowed[t.index()] & right != 0)
@@ -62,7 +71,7 @@ impl Friendly<'_> {
         let estimate = &self.state.estimate;
         let rows: Vec<Tuple> =
             estimate.tuples.iter().filter(|row| row.site == t).copied().collect();
-        let next = self.lines.len() as u8 + 1;
+        let next = behind(self.lines.len());
         let target = if t == l && self.rng.chance(50) { Term::Own } else { Term::Site(t) };
         if rows.is_empty() {
             // No A row can match, so a template demands nothing.
@@ -123,11 +132,11 @@ impl Friendly<'_> {
         }
         self.chain(t, &allowed, 2, scope);
         let next = self.lines.len() as u8;
-        self.lines[at] = Line::Eval { next, target, body: at as u8 + 1, sandbox };
+        self.lines[at] = Line::Eval { next, target, body: behind(at), sandbox };
     }
 
     fn accept(&mut self, l: Site, allowed: &Policy) {
-        let next = self.lines.len() as u8 + 1;
+        let next = behind(self.lines.len());
         let fits = |k: &u8| within(&self.state.net.sandboxes[usize::from(*k)].at(l), allowed);
         let any = Some(self.rng.below(4) as u8);
         let fitting = if self.rng.chance(50) { any } else { (0..SANDBOXES as u8).find(fits) };
