@@ -35,6 +35,7 @@ use Rattle.state.specs.declared.Told.{Told}
 use Rattle.state.specs.declared.State.{State}
 use Rattle.state.specs.View.{groundView, stateView, answerView, resultView}
 use Rattle.state.specs.Fits.{soundAt, Fits}
+use Rattle.state.proofs.Few.{sites-few, lines-few, arrivals-few}
 use Rattle.brings.specs.Brought.{Brought}
 
 -- a root put behind the roots
@@ -111,21 +112,13 @@ all-place (more p ps) (suc i) h = all-place ps i (omega arith)
 
 -- an arrival that was read for a state
 module _ (st : State) (f : Fits st) where
-  pub lines-few : st .nlines ≤ 256
-  unfolding stateView
-  lines-few = omega (arith, f .invariant .lines-few, length-view (st .nlines) (st .lines))
-
-  pub size-few : st .net .size ≤ 32
-  unfolding stateView groundView
-  size-few = f .invariant .sites-few
-
   pub sized : length (st .estimate .stand) ≡ 1536 → Sized (st .estimate .nstand) (st .estimate .stand)
   unfolding stateView groundView estimateView allBelow rowsView
   sized long = record {
     few = omega (arith, f .invariant .stand-few, length-table (st .estimate .nstand) (rowAt (st .estimate .stand)));
     long = long;
     alone = f .invariant .stand-distinct;
-    low = all-turn (allBelow (st .net .size)) (allBelow 32) _ (λ t h. all-turn (λ x. ltb x (st .net .size)) (λ x. ltb x 32) t (λ x l. lt-ltb x 32 (omega (arith, ltb-lt x (st .net .size) l, size-few))) h) (f .invariant .stand-fit);
+    low = all-turn (allBelow (st .net .size)) (allBelow 32) _ (λ t h. all-turn (λ x. ltb x (st .net .size)) (λ x. ltb x 32) t (λ x l. lt-ltb x 32 (omega (arith, ltb-lt x (st .net .size) l, sites-few f))) h) (f .invariant .stand-fit);
   }
 
   -- an arrival's root is a line
@@ -133,7 +126,7 @@ module _ (st : State) (f : Fits st) where
   unfolding stateView
   root-low i h =
       subst (λ (r : ℕ). r < length (linesView (st .nlines) (st .lines))) (getD-take (st .narrivals) (st .arrivals) i 0 h)
-      (all-place (f .invariant .arrivals-ok) i (omega (arith, length-take-le (st .narrivals) (st .arrivals) (omega (arith, f .arrivals-long, f .arrivals-few, lines-few)))) .present)
+      (all-place (f .invariant .arrivals-ok) i (omega (arith, length-take-le (st .narrivals) (st .arrivals) (omega (arith, f .arrivals-long, arrivals-few f)))) .present)
 
   module _ (rows : List ℕ) (a : ArrivalRead) (e : arrivalAnswer a ≡ readArrival (st .net .size) (st .nlines) rows) where
     bring-read : bring (stateView st) rows ≡ bringRead (stateView st) (arrivalAnswer a)
@@ -158,7 +151,7 @@ module _ (st : State) (f : Fits st) where
       read-lines = ap (λ (b : Bool). cond b (gives (linesView (a .count) (a .lines))) (refused (a .number) (a .row))) (eq-eqb (a .number) 0 z)
 
       read-ok : ReadOk (st .net .size) (st .nlines) (linesView (a .count) (a .lines))
-      read-ok = arrival-read (st .net .size) (st .nlines) rows (linesView (a .count) (a .lines)) lines-few (sym e ∙ read-lines)
+      read-ok = arrival-read (st .net .size) (st .nlines) rows (linesView (a .count) (a .lines)) (lines-few f) (sym e ∙ read-lines)
 
       pub some-line : 0 < a .count
       some-line = omega (arith, read-ok .some-line, length-view (a .count) (a .lines))
@@ -195,10 +188,10 @@ module _ (st : State) (f : Fits st) where
           arrivals = set (st .arrivals) (st .narrivals) (st .nlines);
           narrivals = st .narrivals + 1;
           sound = set (st .sound) (st .narrivals) sites;
+          tuples = st .tuples;
           run = record {
             threads = st .run .threads;
             nthreads = st .run .nthreads;
-            tuples = st .run .tuples;
             ntuples = st .run .ntuples;
             told = told;
           };
@@ -254,6 +247,7 @@ module _ (st : State) (f : Fits st) where
                 lines-long = long;
                 arrivals-long = length-set (st .arrivals) (st .narrivals) (st .nlines) ∙ f .arrivals-long;
                 sound-long = length-set (st .sound) (st .narrivals) sites ∙ f .sound-long;
+                tuples-long = f .tuples-long;
                 threads-few = f .threads-few;
                 own-few = omega (arith, f .own-few);
                 arrivals-few = omega (arith, some-line, f .arrivals-few);

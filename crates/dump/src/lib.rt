@@ -260,7 +260,7 @@ pub fn say_state(state: State)
     say_counts(n, m, state.nlines);
     let items = state.run.threads;
     say_threads(items, n);
-    say_tuples(&state.run.tuples, m);
+    say_tuples(&state.tuples, m);
     answers::say_count(b"lines,", state.nlines);
     let roots = state.arrivals;
     say_roots(roots, state.narrivals);

@@ -109,8 +109,9 @@ fn brought(state: State, arrival: &[u8]) -> State
     brings::bring(state, arrival)
 }
 
-// Steps made: the run behind them, and how many of them were performed.
+// Steps made: the tuples and the run behind them, and how many of them were performed.
 pub struct Walked {
+    pub tuples: [u8; 1536],
     pub run: Run,
     pub performed: u32,
 }
@@ -118,10 +119,11 @@ pub struct Walked {
 // Steps, guarded or bare, each by the next three of the choices.
 fn steps(state: State, guarded: bool, choices: &[u8], count: usize) -> Walked
     requires { ⌜ Fits state ⌝ }
-    ensures { λ w. ⌜ Fits (goneOn state (w .run)) ⌝ }
+    ensures { λ w. ⌜ Fits (goneOn state (w .tuples) (w .run)) ⌝ }
 {
     let nlines = state.nlines;
     let narrivals = state.narrivals;
+    let mut tuples = state.tuples;
     let mut run = state.run;
     let mut performed: u32 = 0;
     let mut at: usize = 0;
@@ -139,6 +141,7 @@ fn steps(state: State, guarded: bool, choices: &[u8], count: usize) -> Walked
             &state.arrivals,
             narrivals,
             &state.sound,
+            &mut tuples,
             run,
             guarded,
             k,
@@ -149,7 +152,11 @@ fn steps(state: State, guarded: bool, choices: &[u8], count: usize) -> Walked
         at = turned(at, choices.len());
         i += 1;
     }
-    Walked { run, performed }
+    Walked {
+        tuples,
+        run,
+        performed,
+    }
 }
 
 // The state behind one bare step for every three of the choices.
@@ -158,8 +165,10 @@ fn prepared(state: State, choices: &[u8]) -> State
     ensures { λ last. ⌜ Fits last ⌝ }
 {
     let walked = steps(state, false, choices, choices.len() / CHOICE);
+    let tuples = walked.tuples;
     let run = walked.run;
     let mut last = state;
+    last.tuples = tuples;
     last.run = run;
     last
 }

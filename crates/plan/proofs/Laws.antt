@@ -162,20 +162,13 @@ module _ {st : Spec.State} {l : ℕ} {lines : List ℕ} {n : ℕ} {boxes binds a
   pub guest-door : (d i r : ℕ) → getD arrivals i 0 ≡ r → {p b : Bool} → p ≡ door (st .net) (st .estimate) d l (tree (st .lines) (getD arrivals i 0)) → p ≡ b → door (st .net) (st .estimate) d l (tree (st .lines) r) ≡ b
   guest-door d i r q h e = sym (ap (λ (x : ℕ). door (st .net) (st .estimate) d l (tree (st .lines) x)) q) ∙ sym h ∙ e
 
--- of all tables, those of the door
-pub guests : {st : Spec.State} {l : ℕ} {lines : List ℕ} {n : ℕ} {boxes binds arrivals : List ℕ} {narrivals : ℕ} {sets tuples : List ℕ} {ntuples : ℕ} → Tables st l lines n boxes binds arrivals narrivals sets tuples ntuples → Guests st l lines n boxes binds arrivals narrivals sets
-guests w = record { linesIs = w .linesIs; boxesIs = w .boxesIs; bindsIs = w .bindsIs; arrivalsIs = w .arrivalsIs; soundIs = w .soundIs }
-
 module _ {lines : List ℕ} {n : ℕ} {arrivals : List ℕ} {narrivals : ℕ} {sets tuples : List ℕ} {ntuples : ℕ} {th : Thread} (p : Plannable lines n arrivals narrivals sets tuples ntuples th) where
-  pub admits : Admits lines n arrivals narrivals sets
-  admits = record { linesLong = p .linesLong; inOrder = p .inOrder; arrivalsLong = p .arrivalsLong; arrivalsFew = p .arrivalsFew; arrivalsPresent = p .arrivalsPresent; setsLong = p .setsLong }
-
   -- the plan for the line that the thread stands on, from that for its action
   pub plan-at : {st : Spec.State} {l : ℕ} {boxes binds : List ℕ} → Tables st l lines n boxes binds arrivals narrivals sets tuples ntuples → {r : Action} → Decoded lines (th .line) r → {x : Action} → r ≡ x → (k m s : ℕ) {X : Plan} → X ≡ plan st k (threadView th) m s (actionLine x (fieldBytes lines (th .line))) → X ≡ plan st k (threadView th) m s (lineAt (st .lines) (th .line))
   plan-at {st} w {r} d {x} e k m s h =
       h
       ∙ sym (ap (plan st k (threadView th) m s)
-      (ap (λ (ls : List Line). lineAt ls (th .line)) (w .linesIs)
+      (ap (λ (ls : List Line). lineAt ls (th .line)) (w .guests .linesIs)
       ∙ line-view n lines (th .line) (p .threadPresent)
       ∙ sym (d .line)
       ∙ ap (λ (x : Action). actionLine x (fieldBytes lines (th .line))) e))

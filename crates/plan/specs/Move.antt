@@ -32,30 +32,7 @@ planView st k m v =
     (cond (v .silent) (quiet (stateAfter st k m v)) (act (v .target) (v .right) (stateAfter st k m v)))
     (stop (v .stop))
 
--- a state has these tables, and the sets say of its arrivals whether they are sound at site l
-pub record Tables (st : Spec.State) (l : ℕ) (lines : List ℕ) (n : ℕ) (boxes binds arrivals : List ℕ) (narrivals : ℕ) (sets tuples : List ℕ) (ntuples : ℕ) : Type 0 where
-  pub linesIs : st .lines ≡ linesView n lines
-  pub boxesIs : st .net .boxes ≡ boxes
-  pub bindsIs : st .estimate .binds ≡ binds
-  pub arrivalsIs : st .arrivals ≡ take narrivals arrivals
-  pub soundIs : (i : ℕ) → i < narrivals → mem l (getD sets i 0) ≡ sound (st .net) (st .estimate) l (tree (st .lines) (getD arrivals i 0))
-  pub tuplesIs : st .tuples ≡ rowsView ntuples tuples
-
--- what the invariant gives of the tables, and of the thread that acts
-pub record Plannable (lines : List ℕ) (n : ℕ) (arrivals : List ℕ) (narrivals : ℕ) (sets tuples : List ℕ) (ntuples : ℕ) (th : Thread) : Type 0 where
-  pub linesLong : length lines ≡ 2560
-  pub linesFew : n ≤ 256
-  pub inOrder : ordered (linesView n lines) ≡ true
-  pub arrivalsLong : length arrivals ≡ 256
-  pub arrivalsFew : narrivals ≤ 256
-  pub arrivalsPresent : (r : ℕ) → Elem r (take narrivals arrivals) → r < n
-  pub setsLong : length sets ≡ 256
-  pub tuplesLong : length tuples ≡ 1536
-  pub tuplesFew : ntuples ≤ 256
-  pub threadPresent : th .line < n
-  pub threadPlaced : th .site .0 < 32
-
--- of the tables, those of the door at site l
+-- a state has these tables, as the door at site l reads them: the sets say of its arrivals whether they are sound there
 pub record Guests (st : Spec.State) (l : ℕ) (lines : List ℕ) (n : ℕ) (boxes binds arrivals : List ℕ) (narrivals : ℕ) (sets : List ℕ) : Type 0 where
   pub linesIs : st .lines ≡ linesView n lines
   pub boxesIs : st .net .boxes ≡ boxes
@@ -63,7 +40,12 @@ pub record Guests (st : Spec.State) (l : ℕ) (lines : List ℕ) (n : ℕ) (boxe
   pub arrivalsIs : st .arrivals ≡ take narrivals arrivals
   pub soundIs : (i : ℕ) → i < narrivals → mem l (getD sets i 0) ≡ sound (st .net) (st .estimate) l (tree (st .lines) (getD arrivals i 0))
 
--- what the door asks of them
+-- and these tuples
+pub record Tables (st : Spec.State) (l : ℕ) (lines : List ℕ) (n : ℕ) (boxes binds arrivals : List ℕ) (narrivals : ℕ) (sets tuples : List ℕ) (ntuples : ℕ) : Type 0 where
+  pub guests : Guests st l lines n boxes binds arrivals narrivals sets
+  pub tuplesIs : st .tuples ≡ rowsView ntuples tuples
+
+-- what the invariant gives of the door's tables
 pub record Admits (lines : List ℕ) (n : ℕ) (arrivals : List ℕ) (narrivals : ℕ) (sets : List ℕ) : Type 0 where
   pub linesLong : length lines ≡ 2560
   pub inOrder : ordered (linesView n lines) ≡ true
@@ -71,3 +53,12 @@ pub record Admits (lines : List ℕ) (n : ℕ) (arrivals : List ℕ) (narrivals 
   pub arrivalsFew : narrivals ≤ 256
   pub arrivalsPresent : (r : ℕ) → Elem r (take narrivals arrivals) → r < n
   pub setsLong : length sets ≡ 256
+
+-- of all tables, and of the thread that acts
+pub record Plannable (lines : List ℕ) (n : ℕ) (arrivals : List ℕ) (narrivals : ℕ) (sets tuples : List ℕ) (ntuples : ℕ) (th : Thread) : Type 0 where
+  pub admits : Admits lines n arrivals narrivals sets
+  pub linesFew : n ≤ 256
+  pub tuplesLong : length tuples ≡ 1536
+  pub tuplesFew : ntuples ≤ 256
+  pub threadPresent : th .line < n
+  pub threadPlaced : th .site .0 < 32

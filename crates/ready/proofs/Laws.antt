@@ -32,7 +32,8 @@ use Rattle.tuples.proofs.Rows.{rows-long}
 use Rattle.state.specs.declared.State.{State}
 use Rattle.state.specs.View.{groundView, stateView}
 use Rattle.state.specs.Fits.{soundAt, Fits}
-use Rattle.plan.specs.Move.{Tables, Plannable, Guests, Admits}
+use Rattle.plan.specs.Move.{Guests, Tables, Plannable}
+use Rattle.plan.proofs.Fitted.{tables, plannable}
 use Rattle.ready.specs.declared.World.{World}
 use Rattle.ready.specs.Runs.{room, welcome, runs}
 use Rattle.ready.specs.Scan.{firstOf, placeOf, stepsIn, Serves, Testable, AllTestable, Found}
@@ -108,7 +109,7 @@ no-room e t false = refl
 -- what stands in the tables, said of the state
 module _ {st : Spec.State} {l : ℕ} {lines : List ℕ} {n : ℕ} {boxes binds arrivals : List ℕ} {narrivals : ℕ} {sets tuples : List ℕ} {ntuples : ℕ} (w : Tables st l lines n boxes binds arrivals narrivals sets tuples ntuples) where
   pub room-of : {count : ℕ} → length (st .threads) ≡ count → (a b : ℕ) {r : Bool} → r ≡ room count (linesView n lines) a b → r ≡ room (length (st .threads)) (st .lines) a b
-  room-of c a b e = e ∙ sym (ap₂ (λ (k : ℕ) (ls : List Line). room k ls a b) c (w .linesIs))
+  room-of c a b e = e ∙ sym (ap₂ (λ (k : ℕ) (ls : List Line). room k ls a b) c (w .guests .linesIs))
 
   pub tuples-of : (f : List ℕ → Bool) {r : Bool} → r ≡ any f (rowsView ntuples tuples) → r ≡ any f (st .tuples)
   tuples-of f e = e ∙ ap (any f) (sym (w .tuplesIs))
@@ -118,14 +119,14 @@ module _ {st : Spec.State} {l : ℕ} {lines : List ℕ} {n : ℕ} {boxes binds a
 
 module _ {lines : List ℕ} {n : ℕ} {arrivals : List ℕ} {narrivals : ℕ} {sets tuples : List ℕ} {ntuples : ℕ} {th : Thread} (p : Plannable lines n arrivals narrivals sets tuples ntuples th) where
   pub thread-form : InForm n lines (th .line)
-  thread-form = record { inOrder = p .inOrder; present = p .threadPresent }
+  thread-form = record { inOrder = p .admits .inOrder; present = p .threadPresent }
 
   -- the test for the line that the thread stands on, from that for its action
   pub runs-at : {st : Spec.State} {l : ℕ} {boxes binds : List ℕ} → Tables st l lines n boxes binds arrivals narrivals sets tuples ntuples → {r : Action} → Decoded lines (th .line) r → {x : Action} → r ≡ x → {b : Bool} → b ≡ runs st (threadView th) (actionLine x (fieldBytes lines (th .line))) → b ≡ runs st (threadView th) (lineAt (st .lines) (th .line))
   runs-at {st} w {r} d {x} e h =
       h
       ∙ sym (ap (runs st (threadView th))
-      (ap (λ (ls : List Line). lineAt ls (th .line)) (w .linesIs)
+      (ap (λ (ls : List Line). lineAt ls (th .line)) (w .guests .linesIs)
       ∙ line-view n lines (th .line) (p .threadPresent)
       ∙ sym (d .line)
       ∙ ap (λ (x : Action). actionLine x (fieldBytes lines (th .line))) e))
@@ -177,54 +178,6 @@ module _ (st : Spec.State) (inv : Invariant st) (w : World) (s : Serves st w) (i
       ∙ lowest-first (runnable st) n (stepsIn st) (take n items) 0 whole (λ i h. let l : i < n = omega (arith, taken) in ap (runnable st) (zero-add i) ∙ tests-is i l)
       ∙ ap (λ (x : ℕ). placeOf x n) (zero-add (firstOf (stepsIn st) (take n items)) ∙ sym first))
 
--- the tables of a state by value, and what its invariant gives of them
-module _ {st : State} (f : Fits st) where
-  pub tables : (l : ℕ) → l < st .net .size → Tables (stateView st) l (st .lines) (st .nlines) (st .net .boxes) (st .estimate .binds) (st .arrivals) (st .narrivals) (st .sound) (st .run .tuples) (st .run .ntuples)
-  unfolding stateView groundView estimateView soundAt
-  tables l h = record { linesIs = refl; boxesIs = refl; bindsIs = refl; arrivalsIs = refl; soundIs = λ i k. f .sound-is i l k h; tuplesIs = refl }
-
-  pub fits-size : st .net .size ≤ 32
-  unfolding stateView groundView
-  fits-size = f .invariant .sites-few
-
-  pub fits-guests : Admits (st .lines) (st .nlines) (st .arrivals) (st .narrivals) (st .sound)
-  unfolding stateView
-  fits-guests =
-      let v = f .invariant in
-      let n : length (linesView (st .nlines) (st .lines)) ≡ st .nlines = length-view (st .nlines) (st .lines) in
-      record {
-        linesLong = f .lines-long;
-        inOrder = v .lines-ordered;
-        arrivalsLong = f .arrivals-long;
-        arrivalsFew = omega (arith, v .lines-few, n, f .arrivals-few);
-        arrivalsPresent = λ r i. omega (arith, All-in (v .arrivals-ok) i .present, n);
-        setsLong = f .sound-long;
-      }
-
-  module _ (long-threads : length (st .run .threads) ≡ 64) (k : ℕ) (h : k < st .run .nthreads) where
-    thread-ok : ThreadOk (st .net .size) (linesView (st .nlines) (st .lines)) (threadView (getD (st .run .threads) k noThread))
-    unfolding stateView groundView
-    thread-ok = All-get k (f .invariant .threads-ok) (thread-some (st .run .nthreads) (st .run .threads) k h (omega (arith, long-threads, f .threads-few)))
-
-    fits-thread : length (st .run .tuples) ≡ 1536 → Plannable (st .lines) (st .nlines) (st .arrivals) (st .narrivals) (st .sound) (st .run .tuples) (st .run .ntuples) (getD (st .run .threads) k noThread)
-    unfolding stateView
-    fits-thread long-tuples =
-        let v = f .invariant in
-        let g = fits-guests in
-        record {
-          linesLong = g .linesLong;
-          linesFew = omega (arith, v .lines-few, length-view (st .nlines) (st .lines));
-          inOrder = g .inOrder;
-          arrivalsLong = g .arrivalsLong;
-          arrivalsFew = g .arrivalsFew;
-          arrivalsPresent = g .arrivalsPresent;
-          setsLong = g .setsLong;
-          tuplesLong = long-tuples;
-          tuplesFew = omega (arith, v .tuples-few, rows-long (st .run .ntuples) (st .run .tuples));
-          threadPresent = omega (arith, thread-ok .present, length-view (st .nlines) (st .lines));
-          threadPlaced = omega (arith, thread-ok .placed, fits-size);
-        }
-
 -- what ready reads of a state
 abbrev pub worldOf : State → World
 worldOf st = record {
@@ -235,7 +188,7 @@ worldOf st = record {
   arrivals = st .arrivals;
   narrivals = st .narrivals;
   sound = st .sound;
-  tuples = st .run .tuples;
+  tuples = st .tuples;
   ntuples = st .run .ntuples;
   nthreads = st .run .nthreads;
 }
@@ -244,11 +197,11 @@ module _ {st : State} (f : Fits st) (long-threads : length (st .run .threads) �
   few : st .run .nthreads ≤ length (st .run .threads)
   few = omega (arith, long-threads, f .threads-few)
 
-  pub fits-testable : length (st .run .tuples) ≡ 1536 → AllTestable (worldOf st) (take (st .run .nthreads) (st .run .threads))
-  fits-testable tuples = record {
+  pub fits-testable : AllTestable (worldOf st) (take (st .run .nthreads) (st .run .threads))
+  fits-testable = record {
     each = λ k h.
         let l : k < st .run .nthreads = omega (arith, length-take-le (st .run .nthreads) (st .run .threads) few) in
-        subst (Testable (worldOf st)) (sym (getD-take (st .run .nthreads) (st .run .threads) k noThread l)) (record { plannable = fits-thread f long-threads k l tuples; few = f .threads-few });
+        subst (Testable (worldOf st)) (sym (getD-take (st .run .nthreads) (st .run .threads) k noThread l)) (record { plannable = plannable f long-threads k l; few = f .threads-few });
   }
 
   pub fits-ready : (k : ℕ) → Found (worldOf st) (take (st .run .nthreads) (st .run .threads)) k → placeOf k (st .run .nthreads) ≡ ready (stateView st)

@@ -286,7 +286,7 @@ pub fn ready(state: State) -> ReadyAnswer
     let binds = state.estimate.binds;
     let arrivals = state.arrivals;
     let sound = state.sound;
-    let tuples = state.run.tuples;
+    let tuples = state.tuples;
     let items = state.run.threads;
     let n = state.run.nthreads;
     let w = World {

@@ -64,6 +64,7 @@ fn act(state: State, guarded: bool, c: Command) -> State
     let nlines = state.nlines;
     let narrivals = state.narrivals;
     let run = state.run;
+    let mut next = state;
     let behind = step::step(
         &state.net.homes,
         &state.net.boxes,
@@ -73,6 +74,7 @@ fn act(state: State, guarded: bool, c: Command) -> State
         &state.arrivals,
         narrivals,
         &state.sound,
+        &mut next.tuples,
         run,
         guarded,
         c.a,
@@ -80,7 +82,6 @@ fn act(state: State, guarded: bool, c: Command) -> State
         c.c,
     );
     say_step(behind.told);
-    let mut next = state;
     next.run = behind;
     next
 }

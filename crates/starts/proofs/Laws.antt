@@ -78,12 +78,13 @@ module _ (w : WorldRead) (ts : Threads) where
   begun-gives z e = rw (z, e)
 
 -- a state that begins is fresh
-pub begun-fresh : (N : Tables.Net) (E : Estimate) (ts : Threads) (number row : ℕ) → length (N .lines) ≡ 2560 → ts .count ≤ 64 → Fresh (begunOf N E ts number row)
+pub begun-fresh : (N : Tables.Net) (E : Estimate) (ts : Threads) (number row : ℕ) → length (N .lines) ≡ 2560 → length (N .tuples) ≡ 1536 → ts .count ≤ 64 → Fresh (begunOf N E ts number row)
 unfolding begunOf
-begun-fresh N E ts number row long few = record {
-  lines-long = long;
+begun-fresh N E ts number row lines tuples few = record {
+  lines-long = lines;
   arrivals-long = refl;
   sound-long = refl;
+  tuples-long = tuples;
   threads-few = few;
   own-all = refl;
   none-brought = refl;
@@ -119,6 +120,7 @@ module _ (w : WorldRead) (net estimate : List ℕ) (e : worldAnswer w ≡ readBo
           lines-long = f .lines-long;
           arrivals-long = f .arrivals-long;
           sound-long = f .sound-long;
+          tuples-long = f .tuples-long;
           threads-few = f .threads-few;
           own-few = omega (arith, f .own-all);
           arrivals-few = omega (arith, f .none-brought);

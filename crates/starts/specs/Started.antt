@@ -30,6 +30,7 @@ pub record Fresh (st : State) : Type 0 where
   pub lines-long : length (st .lines) ≡ 2560
   pub arrivals-long : length (st .arrivals) ≡ 256
   pub sound-long : length (st .sound) ≡ 256
+  pub tuples-long : length (st .tuples) ≡ 1536
   pub threads-few : st .run .nthreads ≤ 64
   pub own-all : st .own ≡ st .nlines
   pub none-brought : st .narrivals ≡ 0
@@ -62,10 +63,10 @@ begunOf N E ts number row = record {
   arrivals = replicate 256 0;
   narrivals = 0;
   sound = replicate 256 0;
+  tuples = N .tuples;
   run = record {
     threads = ts .items;
     nthreads = ts .count;
-    tuples = N .tuples;
     ntuples = N .ntuples;
     told = record { number = number; row = row; event = 1; site = 0; target = 0; right = 0 };
   };

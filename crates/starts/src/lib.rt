@@ -141,7 +141,6 @@ fn begun(net: Net, estimate: Estimate, list: Threads, number: u8, row: usize) ->
     let run = Run {
         threads,
         nthreads,
-        tuples,
         ntuples,
         told,
     };
@@ -154,6 +153,7 @@ fn begun(net: Net, estimate: Estimate, list: Threads, number: u8, row: usize) ->
         arrivals,
         narrivals: 0,
         sound,
+        tuples,
         run,
     }
 }

@@ -9,14 +9,14 @@ use Rattle.state.specs.Fits.{Fits}
 use Rattle.state.specs.Lent.{Parts, Handed, goneOn}
 
 -- a state has its own parts
-pub own-parts : (st : State) → Parts st (st .net .homes) (st .net .boxes) (st .estimate .binds) (st .lines) (st .nlines) (st .arrivals) (st .narrivals) (st .sound) (st .run)
-own-parts st = record { homesIs = refl; boxesIs = refl; bindsIs = refl; linesIs = refl; nlinesIs = refl; arrivalsIs = refl; narrivalsIs = refl; soundIs = refl; runIs = refl }
+pub own-parts : (st : State) → Parts st (st .net .homes) (st .net .boxes) (st .estimate .binds) (st .lines) (st .nlines) (st .arrivals) (st .narrivals) (st .sound) (st .tuples) (st .run)
+own-parts st = record { homesIs = refl; boxesIs = refl; bindsIs = refl; linesIs = refl; nlinesIs = refl; arrivalsIs = refl; narrivalsIs = refl; soundIs = refl; tuplesIs = refl; runIs = refl }
 
 -- a state that has gone on is handed over in its parts
-pub hand-over : (st : State) (run : Run) → Fits (goneOn st run) → Handed (st .net .homes) (st .net .boxes) (st .estimate .binds) (st .lines) (st .nlines) (st .arrivals) (st .narrivals) (st .sound) run
-hand-over st run f = record { state = goneOn st run; parts = own-parts (goneOn st run); fits = f }
+pub hand-over : (st : State) (tuples : List ℕ) (run : Run) → Fits (goneOn st tuples run) → Handed (st .net .homes) (st .net .boxes) (st .estimate .binds) (st .lines) (st .nlines) (st .arrivals) (st .narrivals) (st .sound) tuples run
+hand-over st tuples run f = record { state = goneOn st tuples run; parts = own-parts (goneOn st tuples run); fits = f }
 
-module _ {homes boxes binds lines : List ℕ} {nlines : ℕ} {arrivals : List ℕ} {narrivals : ℕ} {sound : List ℕ} {run : Run} (st : State) (e : Parts st homes boxes binds lines nlines arrivals narrivals sound run) where
+module _ {homes boxes binds lines : List ℕ} {nlines : ℕ} {arrivals : List ℕ} {narrivals : ℕ} {sound tuples : List ℕ} {run : Run} (st : State) (e : Parts st homes boxes binds lines nlines arrivals narrivals sound tuples run) where
   -- the state, its parts named as they were handed over
   abbrev pub joined : State
   joined = record {
@@ -36,11 +36,12 @@ module _ {homes boxes binds lines : List ℕ} {nlines : ℕ} {arrivals : List �
     arrivals = arrivals;
     narrivals = narrivals;
     sound = sound;
+    tuples = tuples;
     run = run;
   }
 
   joined-is : joined ≡ st
-  joined-is = rw (← e .homesIs, ← e .boxesIs, ← e .bindsIs, ← e .linesIs, ← e .nlinesIs, ← e .arrivalsIs, ← e .narrivalsIs, ← e .soundIs, ← e .runIs)
+  joined-is = rw (← e .homesIs, ← e .boxesIs, ← e .bindsIs, ← e .linesIs, ← e .nlinesIs, ← e .arrivalsIs, ← e .narrivalsIs, ← e .soundIs, ← e .tuplesIs, ← e .runIs)
 
   pub joined-fits : Fits st → Fits joined
   joined-fits f = subst Fits (sym joined-is) f

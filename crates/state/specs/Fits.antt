@@ -21,6 +21,7 @@ pub record Fits (st : State) : Type 0 where
   pub lines-long : length (st .lines) ≡ 2560
   pub arrivals-long : length (st .arrivals) ≡ 256
   pub sound-long : length (st .sound) ≡ 256
+  pub tuples-long : length (st .tuples) ≡ 1536
   pub threads-few : st .run .nthreads ≤ 64
   pub own-few : st .own ≤ st .nlines
   pub arrivals-few : st .narrivals ≤ st .nlines

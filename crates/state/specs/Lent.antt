@@ -1,4 +1,5 @@
--- A state handed to a step in two parts: the tables that no step changes are lent, what a step changes goes by value.
+-- A state handed to a step in parts: its tables are lent, of which a step changes the tuples alone, and the rest of what a step
+-- changes goes by value.
 -- Assumes nothing.
 use mathlib.Core.Path.{_≡_}
 use mathlib.Core.List.{List}
@@ -8,7 +9,7 @@ use Rattle.state.specs.declared.State.{State}
 use Rattle.state.specs.Fits.{Fits}
 
 -- these are parts of a state
-pub record Parts (st : State) (homes boxes binds lines : List ℕ) (nlines : ℕ) (arrivals : List ℕ) (narrivals : ℕ) (sound : List ℕ) (run : Run) : Type 0 where
+pub record Parts (st : State) (homes boxes binds lines : List ℕ) (nlines : ℕ) (arrivals : List ℕ) (narrivals : ℕ) (sound tuples : List ℕ) (run : Run) : Type 0 where
   pub homesIs : st .net .homes ≡ homes
   pub boxesIs : st .net .boxes ≡ boxes
   pub bindsIs : st .estimate .binds ≡ binds
@@ -17,17 +18,18 @@ pub record Parts (st : State) (homes boxes binds lines : List ℕ) (nlines : ℕ
   pub arrivalsIs : st .arrivals ≡ arrivals
   pub narrivalsIs : st .narrivals ≡ narrivals
   pub soundIs : st .sound ≡ sound
+  pub tuplesIs : st .tuples ≡ tuples
   pub runIs : st .run ≡ run
 
 -- they are parts of a state that has the invariant
-pub record Handed (homes boxes binds lines : List ℕ) (nlines : ℕ) (arrivals : List ℕ) (narrivals : ℕ) (sound : List ℕ) (run : Run) : Type 0 where
+pub record Handed (homes boxes binds lines : List ℕ) (nlines : ℕ) (arrivals : List ℕ) (narrivals : ℕ) (sound tuples : List ℕ) (run : Run) : Type 0 where
   pub state : State
-  pub parts : Parts state homes boxes binds lines nlines arrivals narrivals sound run
+  pub parts : Parts state homes boxes binds lines nlines arrivals narrivals sound tuples run
   pub fits : Fits state
 
--- the state that has gone on: all that no step changes, and another run
-abbrev pub goneOn : State → Run → State
-goneOn st run = record {
+-- the state that has gone on: all that no step changes, other tuples, and another run
+abbrev pub goneOn : State → List ℕ → Run → State
+goneOn st tuples run = record {
   net = st .net;
   own = st .own;
   estimate = st .estimate;
@@ -36,5 +38,6 @@ goneOn st run = record {
   arrivals = st .arrivals;
   narrivals = st .narrivals;
   sound = st .sound;
+  tuples = tuples;
   run = run;
 }

@@ -34,7 +34,7 @@ stateView st = record {
   lines = linesView (st .nlines) (st .lines);
   arrivals = take (st .narrivals) (st .arrivals);
   threads = threadsView (st .run .nthreads) (st .run .threads);
-  tuples = rowsView (st .run .ntuples) (st .run .tuples);
+  tuples = rowsView (st .run .ntuples) (st .tuples);
 }
 
 -- what a call that was not refused did

@@ -36,17 +36,17 @@ pub struct Ground {
     pub nroots: usize,
 }
 
-// What a step changes: the threads, the tuples, and what the call behind the state answered.
+// What a step changes beside the table of tuples: the threads, how many tuples there are, and what the call behind the state
+// answered.
 pub struct Run {
     pub threads: [Thread; 64],
     pub nthreads: usize,
-    pub tuples: [u8; 1536],
     pub ntuples: usize,
     pub told: Told,
 }
 
 // The net, the estimate, the lines with those of the arrivals (the first `own` are the net's), the arrivals' roots, for each
-// arrival the set of sites at which it is sound (what the door tests without a sandbox), and what a step changes.
+// arrival the set of sites at which it is sound (what the door tests without a sandbox), the tuples, and what else a step changes.
 pub struct State {
     pub net: Ground,
     pub own: usize,
@@ -56,6 +56,7 @@ pub struct State {
     pub arrivals: [u8; 256],
     pub narrivals: usize,
     pub sound: [u32; 256],
+    pub tuples: [u8; 1536],
     pub run: Run,
 }
 

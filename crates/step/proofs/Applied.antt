@@ -80,7 +80,7 @@ module _ (st : State) (k m : ℕ) (v : Move) (s : Sizes) (w : Measured (linesVie
   unfolding stateAfter after stateView
   threads-is = ap₂ (λ (xs ys : List Spec.Thread). splice k xs (threadsView (st .run .nthreads) (st .run .threads)) ++ ys) settle-is more-is
 
-  pub after-view : {xs : List Spec.Thread} {ys : List (List ℕ)} → xs ≡ splice k (cond (s .nil) [] (threadView (v .thread) ∷ [])) (threadsView (st .run .nthreads) (st .run .threads)) ++ cond (s .more) (threadView (v .added) ∷ []) [] → ys ≡ tuplesAfter (rowsView (st .run .ntuples) (st .run .tuples)) m v → record { net = groundView (st .net) (linesView (st .own) (st .lines)); estimate = estimateView (st .estimate); lines = linesView (st .nlines) (st .lines); arrivals = take (st .narrivals) (st .arrivals); threads = xs; tuples = ys } ≡ stateAfter (stateView st) k m v
+  pub after-view : {xs : List Spec.Thread} {ys : List (List ℕ)} → xs ≡ splice k (cond (s .nil) [] (threadView (v .thread) ∷ [])) (threadsView (st .run .nthreads) (st .run .threads)) ++ cond (s .more) (threadView (v .added) ∷ []) [] → ys ≡ tuplesAfter (rowsView (st .run .ntuples) (st .tuples)) m v → record { net = groundView (st .net) (linesView (st .own) (st .lines)); estimate = estimateView (st .estimate); lines = linesView (st .nlines) (st .lines); arrivals = take (st .narrivals) (st .arrivals); threads = xs; tuples = ys } ≡ stateAfter (stateView st) k m v
   unfolding stateAfter after stateView
   after-view p q =
       ap₂ (λ (xs : List Spec.Thread) (ys : List (List ℕ)). record { net = groundView (st .net) (linesView (st .own) (st .lines)); estimate = estimateView (st .estimate); lines = linesView (st .nlines) (st .lines); arrivals = take (st .narrivals) (st .arrivals); threads = xs; tuples = ys })
@@ -99,4 +99,4 @@ module _ (st : State) (k m : ℕ) (v : Move) (s : Sizes) (w : Measured (linesVie
 
     pub tuples-count : length (stateAfter (stateView st) k m v .tuples) ≡ s .tuples
     unfolding stateAfter after stateView tuplesAfter
-    tuples-count = rows-total (v .change) (st .run .ntuples) m (rowsView (st .run .ntuples) (st .run .tuples)) (rowAt (v .row) 0) (rows-long (st .run .ntuples) (st .run .tuples)) taken ∙ sym (w .tuplesIs)
+    tuples-count = rows-total (v .change) (st .run .ntuples) m (rowsView (st .run .ntuples) (st .tuples)) (rowAt (v .row) 0) (rows-long (st .run .ntuples) (st .tuples)) taken ∙ sym (w .tuplesIs)

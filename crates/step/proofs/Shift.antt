@@ -17,7 +17,7 @@ use Rattle.state.specs.declared.Run.{Run}
 
 -- a run with other threads
 abbrev pub withThreads : Run → List Thread → Run
-withThreads run ts = record { threads = ts; nthreads = run .nthreads; tuples = run .tuples; ntuples = run .ntuples; told = run .told }
+withThreads run ts = record { threads = ts; nthreads = run .nthreads; ntuples = run .ntuples; told = run .told }
 
 -- from a first run to another, those behind place `from` have moved up as far as place i
 pub record Shifted (from last : ℕ) (first run : Run) (i : ℕ) : Type 0 where

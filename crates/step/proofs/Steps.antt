@@ -31,7 +31,8 @@ use Rattle.state.specs.declared.Run.{Run}
 use Rattle.state.specs.Fits.{soundAt, Fits}
 use Rattle.state.specs.Lent.{Parts, goneOn}
 use Rattle.state.proofs.Lent.{joined, of-joined}
-use Rattle.plan.specs.Move.{tuplesAfter, stateAfter, planView, Tables, Plannable}
+use Rattle.plan.specs.Move.{tuplesAfter, stateAfter, planView}
+use Rattle.plan.proofs.Fitted.{thread-here}
 use Rattle.step.specs.declared.Decision.{Decision}
 use Rattle.step.specs.Stepped.{Measured, Decided, Refusing, Stepped}
 use Rattle.step.proofs.Applied.{threads-count, tuples-count, threads-view, after-view}
@@ -44,58 +45,6 @@ no-thread guarded st k m r h few = rw (thread-none (st .run .nthreads) (st .run 
 pub homes-is : (st : State) → stateView st .net .homes ≡ st .net .homes
 unfolding stateView groundView
 homes-is st = refl
-
--- the arrays of a run have their lengths
-pub record Long (run : Run) : Type 0 where
-  pub threads : length (run .threads) ≡ 64
-  pub tuples : length (run .tuples) ≡ 1536
-
--- what the invariant gives
-module _ (st : State) (f : Fits st) where
-  abbrev i : Invariant (stateView st)
-  i = f .invariant
-
-  pub lines-few : st .nlines ≤ 256
-  unfolding stateView
-  lines-few = omega (arith, length-view (st .nlines) (st .lines), i .lines-few)
-
-  pub tuples-few : st .run .ntuples ≤ 256
-  unfolding stateView
-  tuples-few = omega (arith, rows-long (st .run .ntuples) (st .run .tuples), i .tuples-few)
-
-  module _ (w : Long (st .run)) (k : ℕ) (h : k < st .run .nthreads) where
-    pub thread-here : getElem? (stateView st .threads) k ≡ some (threadView (getD (st .run .threads) k noThread))
-    unfolding stateView
-    thread-here = thread-some (st .run .nthreads) (st .run .threads) k h (omega (arith, w .threads, f .threads-few))
-
-    thread-ok : ThreadOk (st .net .size) (linesView (st .nlines) (st .lines)) (threadView (getD (st .run .threads) k noThread))
-    unfolding stateView groundView
-    thread-ok = All-get k (i .threads-ok) thread-here
-
-    pub thread-placed : getD (st .run .threads) k noThread .site .0 < 32
-    unfolding stateView groundView
-    thread-placed = omega (arith, thread-ok .placed, i .sites-few)
-
-    -- the tables of a state
-    pub tables : Tables (stateView st) (getD (st .run .threads) k noThread .site .0) (st .lines) (st .nlines) (st .net .boxes) (st .estimate .binds) (st .arrivals) (st .narrivals) (st .sound) (st .run .tuples) (st .run .ntuples)
-    unfolding stateView groundView estimateView soundAt
-    tables = record { linesIs = refl; boxesIs = refl; bindsIs = refl; arrivalsIs = refl; soundIs = λ i l. f .sound-is i (getD (st .run .threads) k noThread .site .0) l (thread-ok .placed); tuplesIs = refl }
-
-    pub plannable : Plannable (st .lines) (st .nlines) (st .arrivals) (st .narrivals) (st .sound) (st .run .tuples) (st .run .ntuples) (getD (st .run .threads) k noThread)
-    unfolding stateView
-    plannable = record {
-      linesLong = f .lines-long;
-      linesFew = lines-few;
-      inOrder = i .lines-ordered;
-      arrivalsLong = f .arrivals-long;
-      arrivalsFew = omega (arith, lines-few, f .arrivals-few);
-      arrivalsPresent = λ r e. omega (arith, All-in (i .arrivals-ok) e .present, length-view (st .nlines) (st .lines));
-      setsLong = f .sound-long;
-      tuplesLong = w .tuples;
-      tuplesFew = tuples-few;
-      threadPresent = omega (arith, thread-ok .present, length-view (st .nlines) (st .lines));
-      threadPlaced = thread-placed;
-    }
 
 -- what a plan ends with, by the number that refuses it
 module _ (guarded : Bool) (st : Spec.State) (th : Spec.Thread) (t right : ℕ) (new : Spec.State) where
@@ -135,12 +84,13 @@ unfolding step stepOf
 step-plan guarded st k m r th e p = rw (e, p)
 
 -- a state that has gone on keeps what is its own of the invariant
-fits-on : (st : State) (run : Run) → Fits st → run .nthreads ≤ 64 → Invariant (stateView (goneOn st run)) → Fits (goneOn st run)
+fits-on : (st : State) (tuples : List ℕ) (run : Run) → Fits st → length tuples ≡ 1536 → run .nthreads ≤ 64 → Invariant (stateView (goneOn st tuples run)) → Fits (goneOn st tuples run)
 unfolding stateView soundAt
-fits-on st run f few i = record {
+fits-on st tuples run f long few i = record {
   lines-long = f .lines-long;
   arrivals-long = f .arrivals-long;
   sound-long = f .sound-long;
+  tuples-long = long;
   threads-few = few;
   own-few = f .own-few;
   arrivals-few = f .arrivals-few;
@@ -149,21 +99,21 @@ fits-on st run f few i = record {
 }
 
 -- a step that is refused
-pub stepped-no : (guarded : Bool) (st : State) (k m r : ℕ) (next : Run) {number : ℕ} → Fits st → step guarded (stateView st) k m r ≡ Engine.refuse number 0 (stateView st) → Refusing (st .run) number next → Stepped guarded st k m r (goneOn st next)
+pub stepped-no : (guarded : Bool) (st : State) (k m r : ℕ) (next : Run) {number : ℕ} → Fits st → step guarded (stateView st) k m r ≡ Engine.refuse number 0 (stateView st) → Refusing (st .run) number next → Stepped guarded st k m r (goneOn st (st .tuples) next)
 unfolding resultView stateView
 stepped-no guarded st k m r next f e x =
     let run = st .run in
-    subst (λ (z : Run). Stepped guarded st k m r (goneOn st z)) (sym (x .kept)) record {
+    subst (λ (z : Run). Stepped guarded st k m r (goneOn st (st .tuples) z)) (sym (x .kept)) record {
       result = ap (λ (a : Answer Event). record { answer = a; state = stateView st }) (x .answer) ∙ sym e;
-      fits = fits-on st (record { threads = run .threads; nthreads = run .nthreads; tuples = run .tuples; ntuples = run .ntuples; told = next .told }) f (f .threads-few) (f .invariant);
+      fits = fits-on st (st .tuples) (record { threads = run .threads; nthreads = run .nthreads; ntuples = run .ntuples; told = next .told }) f (f .tuples-long) (f .threads-few) (f .invariant);
     }
 
 -- a step that is not
-pub stepped-yes : (guarded : Bool) (st : State) (k m r : ℕ) (run : Run) {e : Event} {new : Spec.State} → Fits st → step guarded (stateView st) k m r ≡ record { answer = gives e; state = new } → stateView (goneOn st run) ≡ new → answerView (run .told) ≡ gives e → run .nthreads ≤ 64 → Stepped guarded st k m r (goneOn st run)
+pub stepped-yes : (guarded : Bool) (st : State) (k m r : ℕ) (tuples : List ℕ) (run : Run) {e : Event} {new : Spec.State} → Fits st → step guarded (stateView st) k m r ≡ record { answer = gives e; state = new } → stateView (goneOn st tuples run) ≡ new → answerView (run .told) ≡ gives e → length tuples ≡ 1536 → run .nthreads ≤ 64 → Stepped guarded st k m r (goneOn st tuples run)
 unfolding resultView
-stepped-yes guarded st k m r run f p v a few = record {
+stepped-yes guarded st k m r tuples run f p v a long few = record {
   result = ap₂ (λ (x : Answer Event) (s : Spec.State). record { answer = x; state = s }) a v ∙ sym p;
-  fits = fits-on st run f few (subst Invariant (ap (λ (x : Result). x .state) p ∙ sym v) (step-keeps guarded (stateView st) k m r (f .invariant)));
+  fits = fits-on st tuples run f long few (subst Invariant (ap (λ (x : Result). x .state) p ∙ sym v) (step-keeps guarded (stateView st) k m r (f .invariant)));
 }
 
 flip : {room b : Bool} → room ≡ b → _≡_ {A = ℕ} (cond (not room) 27 0) (cond b 0 27)
@@ -177,16 +127,20 @@ pub number-is : (guarded q : Bool) (stopped threads tuples : ℕ) {may allowed l
 number-is guarded q stopped threads tuples p l f e =
     e ∙ ap₂ (λ (x : Bool) (y : ℕ). cond (eqb stopped 0) (cond x 26 y) stopped) (l ∙ ap (λ (b : Bool). not (either q (either (not guarded) b))) p) (flip f)
 
--- the run behind a step, its threads, tuples and answer given
-abbrev pub behind : Decision → List Thread → List ℕ → Told → Run
-behind d ts rows told = record { threads = ts; nthreads = d .sizes .threads; tuples = rows; ntuples = d .sizes .tuples; told = told }
+-- the run behind a step, its threads and answer given
+abbrev pub behind : Decision → List Thread → Told → Run
+behind d ts told = record { threads = ts; nthreads = d .sizes .threads; ntuples = d .sizes .tuples; told = told }
 
 -- a step of a state is one of the state under the names of its parts
-pub stepped-joined : (guarded : Bool) (k m r : ℕ) (st : State) {homes boxes binds lines : List ℕ} {nlines : ℕ} {arrivals : List ℕ} {narrivals : ℕ} {sound : List ℕ} {run : Run} (e : Parts st homes boxes binds lines nlines arrivals narrivals sound run) (next : Run) → Stepped guarded (joined st e) k m r (goneOn (joined st e) next) → Stepped guarded st k m r (goneOn st next)
-stepped-joined guarded k m r st e next = of-joined st e (λ (x : State). Stepped guarded x k m r (goneOn x next))
+pub stepped-joined : (guarded : Bool) (k m r : ℕ) (st : State) {homes boxes binds lines : List ℕ} {nlines : ℕ} {arrivals : List ℕ} {narrivals : ℕ} {sound tuples : List ℕ} {run : Run} (e : Parts st homes boxes binds lines nlines arrivals narrivals sound tuples run) (rows : List ℕ) (next : Run) → Stepped guarded (joined st e) k m r (goneOn (joined st e) rows next) → Stepped guarded st k m r (goneOn st rows next)
+stepped-joined guarded k m r st e rows next = of-joined st e (λ (x : State). Stepped guarded x k m r (goneOn x rows next))
+
+-- a step to a run is one to what is the same
+pub stepped-run : {guarded : Bool} {st : State} {k m r : ℕ} {rows : List ℕ} {a b : Run} → a ≡ b → Stepped guarded st k m r (goneOn st rows a) → Stepped guarded st k m r (goneOn st rows b)
+stepped-run {guarded} {st} {k} {m} {r} {rows} e = subst (λ (nx : Run). Stepped guarded st k m r (goneOn st rows nx)) e
 
 -- a step by what the code finds: the plan, the sizes, the number
-module _ (guarded : Bool) (st : State) (k m r : ℕ) (f : Fits st) (w : Long (st .run)) (h : k < st .run .nthreads) (d : Decision) (o : Decided guarded (stateView st) (st .run .nthreads) (st .run .ntuples) (getD (st .run .threads) k noThread) m r d) where
+module _ (guarded : Bool) (st : State) (k m r : ℕ) (f : Fits st) (w : length (st .run .threads) ≡ 64) (h : k < st .run .nthreads) (d : Decision) (o : Decided guarded (stateView st) (st .run .nthreads) (st .run .ntuples) (getD (st .run .threads) k noThread) m r d) where
   abbrev th : Spec.Thread
   th = threadView (getD (st .run .threads) k noThread)
 
@@ -197,8 +151,8 @@ module _ (guarded : Bool) (st : State) (k m r : ℕ) (f : Fits st) (w : Long (st
   ends : step guarded (stateView st) k m r ≡ Ends guarded (stateView st) th (d .plan .target) (d .plan .right) (stateAfter (stateView st) k m (d .plan)) (d .plan .silent) (d .number)
   unfolding planView
   ends =
-      let few : st .run .nthreads ≤ length (st .run .threads) = omega (arith, w .threads, f .threads-few) in
-      step-plan guarded (stateView st) k m r th (thread-here st f w k h) (o .planIs k)
+      let few : st .run .nthreads ≤ length (st .run .threads) = omega (arith, w, f .threads-few) in
+      step-plan guarded (stateView st) k m r th (thread-here f w k h) (o .planIs k)
       ∙ finish-view guarded (stateView st) th (d .plan .target) (d .plan .right) (stateAfter (stateView st) k m (d .plan)) (d .plan .stop) (d .sizes .threads) (d .sizes .tuples) (d .plan .silent)
       (threads-count st k m (d .plan) (d .sizes) measured h few (o .taken))
       (tuples-count st k m (d .plan) (d .sizes) measured h few (o .taken))
@@ -223,16 +177,16 @@ module _ (guarded : Bool) (st : State) (k m r : ℕ) (f : Fits st) (w : Long (st
   abbrev pub Settled : List Thread → Type 0
   Settled ts = threadsView (cond (d .sizes .nil) (st .run .nthreads - 1) (st .run .nthreads)) ts ≡ splice k (cond (d .sizes .nil) [] (threadView (d .plan .thread) ∷ [])) (threadsView (st .run .nthreads) (st .run .threads))
 
-  module _ (z : d .number ≡ 0) (rows : List ℕ) (told : Told) (a : answerView told ≡ gives (cond (d .plan .silent) silent (performed (th .site) (d .plan .target) (d .plan .right)))) (q : rowsView (d .sizes .tuples) rows ≡ tuplesAfter (rowsView (st .run .ntuples) (st .run .tuples)) m (d .plan)) where
-    performs : (ts : List Thread) → threadsView (d .sizes .threads) ts ≡ splice k (cond (d .sizes .nil) [] (threadView (d .plan .thread) ∷ [])) (threadsView (st .run .nthreads) (st .run .threads)) ++ cond (d .sizes .more) (threadView (d .plan .added) ∷ []) [] → Stepped guarded st k m r (goneOn st (behind d ts rows told))
+  module _ (z : d .number ≡ 0) (rows : List ℕ) (long : length rows ≡ 1536) (told : Told) (a : answerView told ≡ gives (cond (d .plan .silent) silent (performed (th .site) (d .plan .target) (d .plan .right)))) (q : rowsView (d .sizes .tuples) rows ≡ tuplesAfter (rowsView (st .run .ntuples) (st .tuples)) m (d .plan)) where
+    performs : (ts : List Thread) → threadsView (d .sizes .threads) ts ≡ splice k (cond (d .sizes .nil) [] (threadView (d .plan .thread) ∷ [])) (threadsView (st .run .nthreads) (st .run .threads)) ++ cond (d .sizes .more) (threadView (d .plan .added) ∷ []) [] → Stepped guarded st k m r (goneOn st rows (behind d ts told))
     unfolding stateView
-    performs ts e = stepped-yes guarded st k m r (behind d ts rows told) f (step-yes z) (after-view st k m (d .plan) (d .sizes) measured e q) a (room z .0)
+    performs ts e = stepped-yes guarded st k m r rows (behind d ts told) f (step-yes z) (after-view st k m (d .plan) (d .sizes) measured e q) a long (room z .0)
 
-    pub performs-alone : (ts : List Thread) → Settled ts → d .sizes .more ≡ false → Stepped guarded st k m r (goneOn st (behind d ts rows told))
+    pub performs-alone : (ts : List Thread) → Settled ts → d .sizes .more ≡ false → Stepped guarded st k m r (goneOn st rows (behind d ts told))
     performs-alone ts e n =
         performs ts (threads-view (d .sizes .nil) (d .sizes .more) (st .run .nthreads) k (st .run .threads) ts ts _ _ (measured .leftIs) (measured .threadsIs) e (rw n (sym (append-nil (threadsView (d .sizes .left) ts)))))
 
-    pub performs-more : (ts : List Thread) → length ts ≡ 64 → Settled ts → d .sizes .more ≡ true → Stepped guarded st k m r (goneOn st (behind d (set ts (d .sizes .left) (d .plan .added)) rows told))
-    performs-more ts long e y =
-        let few : d .sizes .left < length ts = omega (arith, long, left-room z y) in
+    pub performs-more : (ts : List Thread) → length ts ≡ 64 → Settled ts → d .sizes .more ≡ true → Stepped guarded st k m r (goneOn st rows (behind d (set ts (d .sizes .left) (d .plan .added)) told))
+    performs-more ts enough e y =
+        let few : d .sizes .left < length ts = omega (arith, enough, left-room z y) in
         performs _ (threads-view (d .sizes .nil) (d .sizes .more) (st .run .nthreads) k (st .run .threads) ts (set ts (d .sizes .left) (d .plan .added)) _ _ (measured .leftIs) (measured .threadsIs) e (rw y (push-view ts (d .sizes .left) (d .plan .added) few)))

@@ -40,7 +40,7 @@ pub record Decided (guarded : Bool) (st : Spec.State) (n t : ℕ) (th : Thread) 
 
 -- the run has a refusal for its answer, and is else as it was
 pub record Refusing (run : Run) (number : ℕ) (next : Run) : Type 0 where
-  pub kept : next ≡ record { threads = run .threads; nthreads = run .nthreads; tuples = run .tuples; ntuples = run .ntuples; told = next .told }
+  pub kept : next ≡ record { threads = run .threads; nthreads = run .nthreads; ntuples = run .ntuples; told = next .told }
   pub answer : answerView (next .told) ≡ refused number 0
 
 -- a step was made: the answer and the state are those of document 01, and the invariant is kept

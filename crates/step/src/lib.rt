@@ -161,6 +161,7 @@ fn refusal(stop: u8, lacks: bool, full: bool) -> u8
 fn change_tuples(rows: &mut [u8; 1536], n: usize, m: usize, change: u8, row: [u8; 6])
     requires { ⌜ (n ≤ 256) × (cond (eqb change 1) (n + 1) (cond (eqb change 2) (n - 1) n) ≤ 256) × (change ≡ 2 → m < n) × (length (now rows) ≡ 1536) ⌝ }
     ensures { λ r. ⌜ rowsView (cond (eqb change 1) (n + 1) (cond (eqb change 2) (n - 1) n)) (now (rows .exit)) ≡ cond (eqb change 1) (rowsView n (now (rows .entry)) ++ (rowAt row 0 ∷ [])) (cond (eqb change 2) (splice m [] (rowsView n (now (rows .entry)))) (rowsView n (now (rows .entry)))) ⌝ }
+    ensures { λ r. ⌜ length (now (rows .exit)) ≡ 1536 ⌝ }
 {
     if change == plan::APPENDED {
         places::put_tuple(rows, n, row);
@@ -231,12 +232,10 @@ fn refusing(run: Run, number: u8) -> Run
     ensures { λ next. ⌜ Refusing run number next ⌝ }
 {
     let threads = run.threads;
-    let tuples = run.tuples;
     let told = state::refused(number, 0);
     Run {
         threads,
         nthreads: run.nthreads,
-        tuples,
         ntuples: run.ntuples,
         told,
     }
@@ -244,7 +243,7 @@ fn refusing(run: Run, number: u8) -> Run
 
 // Step(k, m, r), guarded or bare, of a state: the tables that no step changes are lent, what a step changes comes back and says what
 // it answers. Guarded, it needs the right in the thread's policy and in the home policy of its site.
-pub fn step<'a>(
+pub fn step<'a, 'b>(
     homes: &'a [u8; 1024],
     boxes: &'a [u8; 1056],
     binds: &'a [u32; 32],
@@ -253,14 +252,16 @@ pub fn step<'a>(
     arrivals: &'a [u8; 256],
     narrivals: usize,
     sound: &'a [u32; 256],
+    tuples: &'b mut [u8; 1536],
     run: Run,
     guarded: bool,
     k: usize,
     m: usize,
     r: usize,
 ) -> Run
-    requires { ⌜ Handed (now homes) (now boxes) (now binds) (now lines) nlines (now arrivals) narrivals (now sound) run ⌝ }
-    ensures { λ next. ⌜ ((st : State) → Fits st → Parts st (now (homes .entry)) (now (boxes .entry)) (now (binds .entry)) (now (lines .entry)) nlines (now (arrivals .entry)) narrivals (now (sound .entry)) run → Stepped guarded st k m r (goneOn st next)) ⌝ }
+    requires { ⌜ Handed (now homes) (now boxes) (now binds) (now lines) nlines (now arrivals) narrivals (now sound) (now tuples) run ⌝ }
+    ensures { λ next. ⌜ ((st : State) → Fits st → Parts st (now (homes .entry)) (now (boxes .entry)) (now (binds .entry)) (now (lines .entry)) nlines (now (arrivals .entry)) narrivals (now (sound .entry)) (now (tuples .entry)) run → Stepped guarded st k m r (goneOn st (now (tuples .exit)) next)) ⌝ }
+    ensures { λ next. ⌜ (0 < next .told .number → now (tuples .exit) ≡ now (tuples .entry)) ⌝ }
 {
     let n = run.nthreads;
     if n <= k {
@@ -278,7 +279,7 @@ pub fn step<'a>(
         arrivals,
         narrivals,
         sound,
-        &next.tuples,
+        tuples,
         ntuples,
         n,
         th,
@@ -293,7 +294,7 @@ pub fn step<'a>(
     let v = d.plan;
     let s = d.sizes;
     let row = v.row;
-    change_tuples(&mut next.tuples, ntuples, m, v.change, row);
+    change_tuples(tuples, ntuples, m, v.change, row);
     next.ntuples = s.tuples;
     let here = th.site;
     next.told = state::stepped(v.silent, here.0, v.target, v.right);

@@ -3,7 +3,8 @@ use Prim.Native.Nat.{_+_, _<_, _≤_}
 use native.Mathlib.Omega.{arith}
 use Rattle.state.specs.View.{stateView}
 use Rattle.state.specs.Fits.{soundAt}
-use Rattle.brings.proofs.Laws.{size-few, sized, refused-bring, some-line, few, arrival-ordered, root-form, joined-brought}
+use Rattle.state.proofs.Few.{sites-few}
+use Rattle.brings.proofs.Laws.{sized, refused-bring, some-line, few, arrival-ordered, root-form, joined-brought}
 use borrow.Author.Needs.{needs, length-unmapped}
 use lib.ListN.{length}
 use Rattle.brings.proofs.bring.Statement.{statement}
@@ -35,7 +36,7 @@ unfolding stateView soundAt
 returns c =
     let f = c .before .before .before .before .before .pre in
     let r = c .before .before .read-arrival in
-    refused-bring _ f _ (r .result) (r .ensures) (c .before .if1 .taken) _ refl (c .refused .ensures) (record { lines-long = f .lines-long; arrivals-long = f .arrivals-long; sound-long = f .sound-long; threads-few = f .threads-few; own-few = f .own-few; arrivals-few = f .arrivals-few; sound-is = f .sound-is; invariant = f .invariant })
+    refused-bring _ f _ (r .result) (r .ensures) (c .before .if1 .taken) _ refl (c .refused .ensures) (record { lines-long = f .lines-long; arrivals-long = f .arrivals-long; sound-long = f .sound-long; tuples-long = f .tuples-long; threads-few = f .threads-few; own-few = f .own-few; arrivals-few = f .arrivals-few; sound-is = f .sound-is; invariant = f .invariant })
 
 append-moved-requires : tie.Need-append-moved-requires
 append-moved-requires c κs =
@@ -56,7 +57,7 @@ sound-sites-requires c κs =
     let s = x .before .before .before .before in
     let r = x .before .read-arrival in
     let a = c .before .before .before .before .before .before .append-moved .ensures in
-    (root-form _ (s .pre) _ (r .result) (r .ensures) (x .if1 .left) _ (a .1), room x, a .0, sized _ (s .pre) (stand-long s), size-few _ (s .pre))
+    (root-form _ (s .pre) _ (r .result) (r .ensures) (x .if1 .left) _ (a .1), room x, a .0, sized _ (s .pre) (stand-long s), sites-few (s .pre))
 
 element-write-next : tie.Need-element-write-next
 element-write-next c = omega (arith, place (c .before .before .before .before .before .before .before .before .before .before .before))

@@ -1,12 +1,7 @@
-use mathlib.Core.Path.{_≡_}
-use lib.ListN.{length}
-use Rattle.dump.proofs.Few.{tuples-few, arrivals-few}
+use Rattle.state.proofs.Few.{tuples-few, arrivals-few}
 use borrow.Author.Needs.{needs}
 use Rattle.dump.proofs.say_state.Statement.{statement}
 use Rattle.dump.proofs.say_state.Tie as tie
-
-tuples-long : (c : tie.Start) → length (c .args .t1 .run .tuples) ≡ 1536
-tuples-long c = search needs
 
 say-counts-requires : tie.Need-say-counts-requires
 say-counts-requires c κs = search needs
@@ -17,7 +12,7 @@ say-threads-requires c κs = search needs
 say-tuples-requires : tie.Need-say-tuples-requires
 say-tuples-requires c κs =
     let s = c .before .before .before .before .before in
-    (tuples-few (s .args .t1) (s .pre), tuples-long s)
+    (tuples-few (s .pre), s .pre .tuples-long)
 
 slice-aggregate-say-count : tie.Need-slice-aggregate-say-count
 slice-aggregate-say-count c = search needs
@@ -28,7 +23,7 @@ say-count-requires c κs = search needs
 say-roots-requires : tie.Need-say-roots-requires
 say-roots-requires c κs =
     let s = c .before .before .before .before .before .before .before .before .before in
-    arrivals-few (s .args .t1) (s .pre)
+    arrivals-few (s .pre)
 
 returns : tie.Need-returns
 returns c = search needs

@@ -11,17 +11,17 @@ use Rattle.exports.proofs.steps.Statement.{statement}
 use Rattle.exports.proofs.steps.Tie as tie
 
 abbrev Inv-loop : tie.InvT-loop
-Inv-loop guarded choices count state nlines narrivals run₀ performed₀ at₀ i₀ run performed at i = Fits (goneOn state run) × (at ≤ length choices)
+Inv-loop guarded choices count state nlines narrivals tuples₀ run₀ performed₀ at₀ i₀ tuples run performed at i = Fits (goneOn state tuples run) × (at ≤ length choices)
 
 abbrev μ-loop : tie.MeasureT-loop
-μ-loop guarded choices count state nlines narrivals run₀ performed₀ at₀ i₀ run performed at i = count - i
+μ-loop guarded choices count state nlines narrivals tuples₀ run₀ performed₀ at₀ i₀ tuples run performed at i = count - i
 
 -- the count is a machine number
 few : (c : tie.Start Inv-loop μ-loop) → c .args .count < 18446744073709551616
 few c = omega arith
 
 loop-holds : tie.Need-loop-holds Inv-loop μ-loop
-loop-holds c = (c .before .before .pre, omega arith)
+loop-holds c = (c .before .before .before .pre, omega arith)
 
 choice-requires : tie.Need-choice-requires Inv-loop μ-loop
 choice-requires c κs = search needs
@@ -39,7 +39,9 @@ choice-requires-3 : tie.Need-choice-requires-3 Inv-loop μ-loop
 choice-requires-3 c κs = search needs
 
 step-requires : tie.Need-step-requires Inv-loop μ-loop
-step-requires c κs = hand-over (c .before .before .before .before .before .before .before .before .before .before .before .before .before .before .args .t1) (c .before .before .before .before .before .before .before .before .before .before .before .loop .run) (c .before .before .before .before .before .before .before .before .before .before .before .loop .inv .0)
+step-requires c κs =
+    let at = c .before .before .before .before .before .before .before .before .before .before .before .before .loop in
+    hand-over (c .before .before .before .before .before .before .before .before .before .before .before .before .before .before .before .before .args .t1) (at .tuples) (at .run) (at .inv .0)
 
 done-requires : tie.Need-done-requires Inv-loop μ-loop
 done-requires c κs = search needs
@@ -51,15 +53,16 @@ turned-requires : tie.Need-turned-requires Inv-loop μ-loop
 turned-requires c κs = search needs
 
 add-i : tie.Need-add-i Inv-loop μ-loop
-add-i c = omega (arith, c .before .before .before .before .before .before .before .before .before .before .before .before .before .before .loop-test .taken, few (c .before .before .before .before .before .before .before .before .before .before .before .before .before .before .before .before .before .before))
+add-i c = omega (arith, c .before .before .before .before .before .before .before .before .before .before .before .before .before .before .before .loop-test .taken, few (c .before .before .before .before .before .before .before .before .before .before .before .before .before .before .before .before .before .before .before .before))
 
 loop-less : tie.Need-loop-less Inv-loop μ-loop
 loop-less c = search needs
 
 loop-again : tie.Need-loop-again Inv-loop μ-loop
 loop-again c =
-    let st = goneOn (c .before .before .before .before .before .before .before .before .before .before .before .before .before .before .before .before .before .before .args .t1) (c .before .before .before .before .before .before .before .before .before .before .before .before .before .before .before .loop .run) in
-    (c .before .before .before .step .ensures st (c .before .before .before .before .before .before .before .before .before .before .before .before .before .before .before .loop .inv .0) (own-parts st) .fits, c .turned .ensures)
+    let at = c .before .before .before .before .before .before .before .before .before .before .before .before .before .before .before .before .loop in
+    let st = goneOn (c .before .before .before .before .before .before .before .before .before .before .before .before .before .before .before .before .before .before .before .before .args .t1) (at .tuples) (at .run) in
+    (c .before .before .before .step .ensures .0 st (at .inv .0) (own-parts st) .fits, c .turned .ensures)
 
 returns : tie.Need-returns Inv-loop μ-loop
 returns c = c .before .loop .inv .0

@@ -2,7 +2,7 @@ use native.Mathlib.Omega.{arith}
 use borrow.Author.Needs.{needs}
 use Rattle.klaim.specs.Engine.{plan}
 use Rattle.tables.specs.View.{actionLine}
-use Rattle.plan.proofs.Laws.{guests, admits, plan-at, low-of}
+use Rattle.plan.proofs.Laws.{plan-at, low-of}
 use Rattle.plan.proofs.plan.Statement.{statement}
 use Rattle.plan.proofs.plan.Tie as tie
 
@@ -34,7 +34,7 @@ plan-out-requires : tie.Need-plan-out-requires
 plan-out-requires c κs =
     let s = c .before .before .before .before in
     let low = low-of (c .before .before .before .action-at .ensures) (c .before .next3 .given .1) in
-    (low .1, s .pre .linesLong, low .0)
+    (low .1, s .pre .admits .linesLong, low .0)
 
 enum-known-next-4 : tie.Need-enum-known-next-4
 enum-known-next-4 c = search needs
@@ -43,7 +43,7 @@ plan-in-requires : tie.Need-plan-in-requires
 plan-in-requires c κs =
     let s = c .before .before .before .before in
     let low = low-of (c .before .before .before .action-at .ensures) (c .before .next4 .given .1) in
-    (s .pre .tuplesFew, low .1, s .pre .linesLong, s .pre .tuplesLong, low .0)
+    (s .pre .tuplesFew, low .1, s .pre .admits .linesLong, s .pre .tuplesLong, low .0)
 
 enum-known-next-5 : tie.Need-enum-known-next-5
 enum-known-next-5 c = search needs
@@ -52,7 +52,7 @@ plan-read-requires : tie.Need-plan-read-requires
 plan-read-requires c κs =
     let s = c .before .before .before .before in
     let low = low-of (c .before .before .before .action-at .ensures) (c .before .next5 .given .1) in
-    (s .pre .tuplesFew, low .1, s .pre .linesLong, s .pre .tuplesLong, low .0)
+    (s .pre .tuplesFew, low .1, s .pre .admits .linesLong, s .pre .tuplesLong, low .0)
 
 enum-known-next-6 : tie.Need-enum-known-next-6
 enum-known-next-6 c = search needs
@@ -70,7 +70,7 @@ plan-accept-requires : tie.Need-plan-accept-requires
 plan-accept-requires c κs =
     let s = c .before .before .before .before in
     let low = low-of (c .before .before .before .action-at .ensures) (c .before .next7 .given .1) in
-    (admits (s .pre), s .pre .threadPlaced, low)
+    (s .pre .admits, s .pre .threadPlaced, low)
 
 returns : tie.Need-returns
 unfolding plan actionLine
@@ -119,14 +119,14 @@ unfolding plan actionLine
 returns-7 c =
     let s = c .before .before .before .before .before in
     let ar = s .args in
-    ((λ st k w. plan-at (s .pre) w (c .before .before .before .before .action-at .ensures) (c .before .before .next6 .given .1) k (ar .m) (ar .r) (c .plan-eval .ensures .0 st k (ar .m) (ar .r) (w .boxesIs))), (c .plan-eval .ensures .1 .0, λ q. omega (arith, c .plan-eval .ensures .1 .1)))
+    ((λ st k w. plan-at (s .pre) w (c .before .before .before .before .action-at .ensures) (c .before .before .next6 .given .1) k (ar .m) (ar .r) (c .plan-eval .ensures .0 st k (ar .m) (ar .r) (w .guests .boxesIs))), (c .plan-eval .ensures .1 .0, λ q. omega (arith, c .plan-eval .ensures .1 .1)))
 
 returns-8 : tie.Need-returns-8
 unfolding plan actionLine
 returns-8 c =
     let s = c .before .before .before .before .before in
     let ar = s .args in
-    ((λ st k w. plan-at (s .pre) w (c .before .before .before .before .action-at .ensures) (c .before .before .next7 .given .1) k (ar .m) (ar .r) (c .plan-accept .ensures .0 st k (ar .m) (guests w))), (c .plan-accept .ensures .1 .0, λ q. omega (arith, c .plan-accept .ensures .1 .1)))
+    ((λ st k w. plan-at (s .pre) w (c .before .before .before .before .action-at .ensures) (c .before .before .next7 .given .1) k (ar .m) (ar .r) (c .plan-accept .ensures .0 st k (ar .m) (w .guests))), (c .plan-accept .ensures .1 .0, λ q. omega (arith, c .plan-accept .ensures .1 .1)))
 
 pub plan-spec : {M : Type 1} → statement M
 plan-spec =

@@ -1,7 +1,7 @@
 use mathlib.Core.Path.{refl}
 use Rattle.tables.specs.View.{actionLine}
 use Rattle.tables.proofs.Lines.{next}
-use Rattle.plan.proofs.Laws.{guests, admits, low-of}
+use Rattle.plan.proofs.Laws.{low-of}
 use Rattle.ready.specs.Runs.{runs}
 use Rattle.ready.proofs.Laws.{room-of, tuples-of, more-of, thread-form, runs-at}
 use borrow.Author.Needs.{needs}
@@ -36,7 +36,7 @@ some-agrees-requires : tie.Need-some-agrees-requires
 some-agrees-requires c κs =
     let p = c .before .before .before .before .pre .0 in
     let low = low-of (c .before .before .before .action-at .ensures) (c .before .target .given .1) in
-    (p .tuplesFew, low .1, p .linesLong, p .tuplesLong, low .0)
+    (p .tuplesFew, low .1, p .admits .linesLong, p .tuplesLong, low .0)
 
 enum-known-target-2 : tie.Need-enum-known-target-2
 enum-known-target-2 c = search needs
@@ -45,7 +45,7 @@ some-agrees-requires-2 : tie.Need-some-agrees-requires-2
 some-agrees-requires-2 c κs =
     let p = c .before .before .before .before .pre .0 in
     let low = low-of (c .before .before .before .action-at .ensures) (c .before .target2 .given .1) in
-    (p .tuplesFew, low .1, p .linesLong, p .tuplesLong, low .0)
+    (p .tuplesFew, low .1, p .admits .linesLong, p .tuplesLong, low .0)
 
 enum-known-next-3 : tie.Need-enum-known-next-3
 enum-known-next-3 c = search needs
@@ -61,7 +61,7 @@ some-guest-requires c κs =
     let s = c .before .before .before .before in
     let p = s .pre .0 in
     let nx = next (thread-form p) (c .before .before .before .action-at .ensures) (c .before .next4 .given .1) in
-    (admits p, p .threadPlaced, nx .1, s .pre .1)
+    (p .admits, p .threadPlaced, nx .1, s .pre .1)
 
 returns : tie.Need-returns
 unfolding runs actionLine
@@ -126,7 +126,7 @@ returns-8 c =
     let p = c .before .before .before .before .before .pre .0 in
     let d = c .before .before .before .before .action-at .ensures in
     let e = c .before .before .next4 .given .1 in
-    λ st w k. runs-at p w d e (c .some-guest .ensures st (guests w) k)
+    λ st w k. runs-at p w d e (c .some-guest .ensures st (w .guests) k)
 
 pub can-step-spec : {M : Type 1} → statement M
 can-step-spec =

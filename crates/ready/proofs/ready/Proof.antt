@@ -2,21 +2,16 @@ use mathlib.Core.Path.{_≡_, _∙_}
 use lib.ListN.{length}
 use Rattle.threads.proofs.Splice.{length-mapped}
 use Rattle.ready.proofs.Laws.{fits-testable, fits-ready}
-use borrow.Author.Needs.{length-unmapped}
 use Rattle.ready.proofs.ready.Statement.{statement}
 use Rattle.ready.proofs.ready.Tie as tie
 
--- the arrays have their lengths
 threads-long : (c : tie.Start) → length (c .args .state .run .threads) ≡ 64
 threads-long c = search length-mapped
-
-tuples-long : (c : tie.Start) → length (c .args .state .run .tuples) ≡ 1536
-tuples-long c = search length-unmapped
 
 lowest-requires : tie.Need-lowest-requires
 lowest-requires c κs =
     let s = c .before .before .before .before .before .before .before in
-    (s .pre .threads-few, fits-testable (s .pre) (threads-long s) (tuples-long s))
+    (s .pre .threads-few, fits-testable (s .pre) (threads-long s))
 
 place-of-requires : tie.Need-place-of-requires
 place-of-requires c κs = c .before .before .before .before .before .before .before .before .pre .threads-few

@@ -11,6 +11,9 @@ use Rattle.starts.proofs.begin.Tie as tie
 lines-long : (c : tie.Start) → length (c .args .t1 .net .lines) ≡ 2560
 lines-long c = search needs
 
+tuples-long : (c : tie.Start) → length (c .args .t1 .net .tuples) ≡ 1536
+tuples-long c = search needs
+
 roots-long : (c : tie.Start) → length (c .args .t1 .net .roots) ≡ 128
 roots-long c = search needs
 
@@ -24,7 +27,7 @@ returns : tie.Need-returns
 returns c =
     let s = c .before .before .before .before .before in
     let e = c .begun .ensures in
-    (ap startView e ∙ begun-refused _ _ (c .before .before .if1 .taken), subst Fresh (sym e) (begun-fresh _ _ _ _ _ (lines-long s) (omega (arith, c .before .no-threads .ensures .0))))
+    (ap startView e ∙ begun-refused _ _ (c .before .before .if1 .taken), subst Fresh (sym e) (begun-fresh _ _ _ _ _ (lines-long s) (tuples-long s) (omega (arith, c .before .no-threads .ensures .0))))
 
 root-threads-requires : tie.Need-root-threads-requires
 root-threads-requires c κs =
@@ -43,7 +46,7 @@ returns-2 c =
     let z = c .before .before .before .before .before .before .if1 .left in
     let f = c .before .root-threads .ensures in (
       ap startView e ∙ begun-gives (s .args .t1) (c .before .root-threads .result) z (f .1 (netView (s .args .t1 .net)) refl refl),
-      subst Fresh (sym e) (begun-fresh _ _ _ _ _ (lines-long s) (f .0)),
+      subst Fresh (sym e) (begun-fresh _ _ _ _ _ (lines-long s) (tuples-long s) (f .0)),
     )
 
 pub begin-spec : {M : Type 1} → statement M
