@@ -190,6 +190,9 @@ fn ready_times(state: State, count: usize) -> u32
 fn door_times(state: State, choices: &[u8], count: usize) -> u32
     requires { ⌜ Fits state ⌝ }
 {
+    let size = state.net.size;
+    let nlines = state.nlines;
+    let narrivals = state.narrivals;
     let mut sum: u32 = 0;
     let mut at: usize = 0;
     let mut i: usize = 0;
@@ -197,7 +200,20 @@ fn door_times(state: State, choices: &[u8], count: usize) -> u32
         let r = choice(choices, at);
         let l = choice(choices, at + 1);
         let d = choice(choices, at + 2);
-        sum = std::num::wrapping_add_u32(sum, opened(ready::door(state, r, l, d)));
+        let answer = ready::door(
+            size,
+            &state.net.boxes,
+            &state.estimate.binds,
+            &state.lines,
+            nlines,
+            &state.arrivals,
+            narrivals,
+            &state.sound,
+            r,
+            l,
+            d,
+        );
+        sum = std::num::wrapping_add_u32(sum, opened(answer));
         at = turned(at, choices.len());
         i += 1;
     }

@@ -11,8 +11,10 @@ ghost use Rattle.klaim.specs.Engine.{agrees as agreesOf, doorAlone, ready as re
 ghost use Rattle.tables.specs.View.{linesView, rowsView, slotOf, fieldBytes, LowLoc};
 ghost use Rattle.threads.specs.View.{threadView};
 ghost use Rattle.plan.specs.Move.{Tables, Plannable, Guests, Admits};
+ghost use Rattle.state.specs.declared.State.{State};
 ghost use Rattle.state.specs.View.{stateView};
 ghost use Rattle.state.specs.Fits.{Fits};
+ghost use Rattle.state.specs.Lent.{Lent, Shown};
 ghost use Rattle.ready.specs.Runs.{standing, room as roomOf, welcome, runs as runsOf};
 ghost use Rattle.ready.specs.View.{doorView, readyView};
 ghost use Rattle.ready.specs.Scan.{Testable, AllTestable, Tested, Found, placeOf};
@@ -305,22 +307,23 @@ pub fn ready(state: State) -> ReadyAnswer
     place_of(k, n)
 }
 
-// The door for the arrival whose root is line r, at site l of `size` sites, under sandbox d.
-fn answers<'a>(
-    lines: &'a [u8; 2560],
-    n: usize,
+// The door called by itself: whether the arrival whose root is line r passes at site l under sandbox d. The tables that it reads are
+// lent, of a state of `size` sites. 24 for the root, then 4 for l, then 2 for a sandbox number over 31.
+pub fn door<'a>(
+    size: u8,
     boxes: &'a [u8; 1056],
     binds: &'a [u32; 32],
+    lines: &'a [u8; 2560],
+    nlines: usize,
     arrivals: &'a [u8; 256],
     narrivals: usize,
     sound: &'a [u32; 256],
-    size: u8,
     r: usize,
     l: usize,
     d: usize,
 ) -> DoorAnswer
-    requires { ⌜ Admits (now lines) n (now arrivals) narrivals (now sound) × (size ≤ 32) ⌝ }
-    ensures { λ a. ⌜ ((st : Spec.State) → (l < size → Guests st l (now (lines .entry)) n (now (boxes .entry)) (now (binds .entry)) (now (arrivals .entry)) narrivals (now (sound .entry))) → st .arrivals ≡ take narrivals (now (arrivals .entry)) → st .net .size ≡ size → doorView a ≡ doorAlone st r l d) ⌝ }
+    requires { ⌜ Shown size (now boxes) (now binds) (now lines) nlines (now arrivals) narrivals (now sound) ⌝ }
+    ensures { λ a. ⌜ ((st : State) → Fits st → st .net .size ≡ size → Lent st (now (boxes .entry)) (now (binds .entry)) (now (lines .entry)) nlines (now (arrivals .entry)) narrivals (now (sound .entry)) → doorView a ≡ doorAlone (stateView st) r l d) ⌝ }
 {
     let i = plan::arrival_at(arrivals, narrivals, r);
     if narrivals <= i {
@@ -336,7 +339,7 @@ fn answers<'a>(
     let sandbox = d as u8;
     if plan::admitted(
         lines,
-        n,
+        nlines,
         boxes,
         binds,
         arrivals,
@@ -349,28 +352,4 @@ fn answers<'a>(
         return DoorAnswer::Passes;
     }
     DoorAnswer::Closed
-}
-
-// The door called by itself: whether the arrival whose root is line r passes at site l under sandbox d.
-// 24 for the root, then 4 for l, then 2 for a sandbox number over 31.
-pub fn door(state: State, r: usize, l: usize, d: usize) -> DoorAnswer
-    requires { ⌜ Fits state ⌝ }
-    ensures { λ a. ⌜ doorView a ≡ doorAlone (stateView state) r l d ⌝ }
-{
-    let n = state.nlines;
-    let narrivals = state.narrivals;
-    let size = state.net.size;
-    answers(
-        &state.lines,
-        n,
-        &state.net.boxes,
-        &state.estimate.binds,
-        &state.arrivals,
-        narrivals,
-        &state.sound,
-        size,
-        r,
-        l,
-        d,
-    )
 }

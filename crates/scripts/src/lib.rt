@@ -86,6 +86,28 @@ fn act(state: State, guarded: bool, c: Command) -> State
     next
 }
 
+// The door, and its row.
+fn try_door(state: State, c: Command)
+    requires { ⌜ Fits state ⌝ }
+{
+    let nlines = state.nlines;
+    let narrivals = state.narrivals;
+    let answer = ready::door(
+        state.net.size,
+        &state.net.boxes,
+        &state.estimate.binds,
+        &state.lines,
+        nlines,
+        &state.arrivals,
+        narrivals,
+        &state.sound,
+        c.a,
+        c.b,
+        c.c,
+    );
+    say_door(answer);
+}
+
 // A command other than `bring`: the state behind it.
 fn obey(state: State, c: Command) -> State
     requires { ⌜ Fits state ⌝ }
@@ -98,7 +120,7 @@ fn obey(state: State, c: Command) -> State
         return act(state, true, c);
     }
     if c.kind == commands::DOOR {
-        say_door(ready::door(state, c.a, c.b, c.c));
+        try_door(state, c);
         return state;
     }
     if c.kind == commands::READY {

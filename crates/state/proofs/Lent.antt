@@ -6,11 +6,17 @@ use Prim.Native.Nat.{ℕ}
 use Rattle.state.specs.declared.Run.{Run}
 use Rattle.state.specs.declared.State.{State}
 use Rattle.state.specs.Fits.{Fits}
-use Rattle.state.specs.Lent.{Parts, Handed, goneOn}
+use Rattle.state.specs.Lent.{Lent, Parts, Handed, goneOn}
 
--- a state has its own parts
+-- a state has its own tables and parts
+pub own-tables : (st : State) → Lent st (st .net .boxes) (st .estimate .binds) (st .lines) (st .nlines) (st .arrivals) (st .narrivals) (st .sound)
+own-tables st = record { boxesIs = refl; bindsIs = refl; linesIs = refl; nlinesIs = refl; arrivalsIs = refl; narrivalsIs = refl; soundIs = refl }
+
+pub with-rest : {boxes binds lines : List ℕ} {nlines : ℕ} {arrivals : List ℕ} {narrivals : ℕ} {sound : List ℕ} (st : State) → Lent st boxes binds lines nlines arrivals narrivals sound → Parts st (st .net .homes) boxes binds lines nlines arrivals narrivals sound (st .tuples) (st .run)
+with-rest st e = record { homesIs = refl; lent = e; tuplesIs = refl; runIs = refl }
+
 pub own-parts : (st : State) → Parts st (st .net .homes) (st .net .boxes) (st .estimate .binds) (st .lines) (st .nlines) (st .arrivals) (st .narrivals) (st .sound) (st .tuples) (st .run)
-own-parts st = record { homesIs = refl; boxesIs = refl; bindsIs = refl; linesIs = refl; nlinesIs = refl; arrivalsIs = refl; narrivalsIs = refl; soundIs = refl; tuplesIs = refl; runIs = refl }
+own-parts st = with-rest st (own-tables st)
 
 -- a state that has gone on is handed over in its parts
 pub hand-over : (st : State) (tuples : List ℕ) (run : Run) → Fits (goneOn st tuples run) → Handed (st .net .homes) (st .net .boxes) (st .estimate .binds) (st .lines) (st .nlines) (st .arrivals) (st .narrivals) (st .sound) tuples run
@@ -41,7 +47,7 @@ module _ {homes boxes binds lines : List ℕ} {nlines : ℕ} {arrivals : List �
   }
 
   joined-is : joined ≡ st
-  joined-is = rw (← e .homesIs, ← e .boxesIs, ← e .bindsIs, ← e .linesIs, ← e .nlinesIs, ← e .arrivalsIs, ← e .narrivalsIs, ← e .soundIs, ← e .tuplesIs, ← e .runIs)
+  joined-is = rw (← e .homesIs, ← e .lent .boxesIs, ← e .lent .bindsIs, ← e .lent .linesIs, ← e .lent .nlinesIs, ← e .lent .arrivalsIs, ← e .lent .narrivalsIs, ← e .lent .soundIs, ← e .tuplesIs, ← e .runIs)
 
   pub joined-fits : Fits st → Fits joined
   joined-fits f = subst Fits (sym joined-is) f

@@ -1,5 +1,5 @@
--- A state handed to a step in parts: its tables are lent, of which a step changes the tuples alone, and the rest of what a step
--- changes goes by value.
+-- A state lent to the door, and handed to a step in parts: its tables are lent, of which a step changes the tuples alone, and the rest of
+-- what a step changes goes by value.
 -- Assumes nothing.
 use mathlib.Core.Path.{_≡_}
 use mathlib.Core.List.{List}
@@ -8,9 +8,8 @@ use Rattle.state.specs.declared.Run.{Run}
 use Rattle.state.specs.declared.State.{State}
 use Rattle.state.specs.Fits.{Fits}
 
--- these are parts of a state
-pub record Parts (st : State) (homes boxes binds lines : List ℕ) (nlines : ℕ) (arrivals : List ℕ) (narrivals : ℕ) (sound tuples : List ℕ) (run : Run) : Type 0 where
-  pub homesIs : st .net .homes ≡ homes
+-- these are the tables of a state that the door reads
+pub record Lent (st : State) (boxes binds lines : List ℕ) (nlines : ℕ) (arrivals : List ℕ) (narrivals : ℕ) (sound : List ℕ) : Type 0 where
   pub boxesIs : st .net .boxes ≡ boxes
   pub bindsIs : st .estimate .binds ≡ binds
   pub linesIs : st .lines ≡ lines
@@ -18,10 +17,22 @@ pub record Parts (st : State) (homes boxes binds lines : List ℕ) (nlines : ℕ
   pub arrivalsIs : st .arrivals ≡ arrivals
   pub narrivalsIs : st .narrivals ≡ narrivals
   pub soundIs : st .sound ≡ sound
+
+-- they are those of a state of `size` sites that has the invariant
+pub record Shown (size : ℕ) (boxes binds lines : List ℕ) (nlines : ℕ) (arrivals : List ℕ) (narrivals : ℕ) (sound : List ℕ) : Type 0 where
+  pub state : State
+  pub sizeIs : state .net .size ≡ size
+  pub lent : Lent state boxes binds lines nlines arrivals narrivals sound
+  pub fits : Fits state
+
+-- these are the parts of a state that a step is handed
+pub record Parts (st : State) (homes boxes binds lines : List ℕ) (nlines : ℕ) (arrivals : List ℕ) (narrivals : ℕ) (sound tuples : List ℕ) (run : Run) : Type 0 where
+  pub homesIs : st .net .homes ≡ homes
+  pub lent : Lent st boxes binds lines nlines arrivals narrivals sound
   pub tuplesIs : st .tuples ≡ tuples
   pub runIs : st .run ≡ run
 
--- they are parts of a state that has the invariant
+-- they are those of a state that has the invariant
 pub record Handed (homes boxes binds lines : List ℕ) (nlines : ℕ) (arrivals : List ℕ) (narrivals : ℕ) (sound tuples : List ℕ) (run : Run) : Type 0 where
   pub state : State
   pub parts : Parts state homes boxes binds lines nlines arrivals narrivals sound tuples run

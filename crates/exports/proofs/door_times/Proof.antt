@@ -8,10 +8,10 @@ use Rattle.exports.proofs.door_times.Statement.{statement}
 use Rattle.exports.proofs.door_times.Tie as tie
 
 abbrev Inv-loop : tie.InvT-loop
-Inv-loop state choices count sum₀ at₀ i₀ sum at i = Fits state × (at ≤ length choices)
+Inv-loop choices count state size nlines narrivals sum₀ at₀ i₀ sum at i = Fits state × (at ≤ length choices)
 
 abbrev μ-loop : tie.MeasureT-loop
-μ-loop state choices count sum₀ at₀ i₀ sum at i = count - i
+μ-loop choices count state size nlines narrivals sum₀ at₀ i₀ sum at i = count - i
 
 loop-holds : tie.Need-loop-holds Inv-loop μ-loop
 loop-holds c = search needs
