@@ -9,7 +9,7 @@ use lib.Dec.{eqb, leb, ltb}
 use lib.Seq.{take-nil}
 use borrow.Author.Tests.{leb-true, leb-false, le-ltb, lt-ltb, ne-eqb}
 use Rattle.sets.specs.Lists.{_&_, either, imp, all, any, only, keep, sum, count, concat, _⧺_}
-use Rattle.sets.proofs.Lists.{and-l, and-r, count-union, count-one}
+use Rattle.sets.proofs.Lists.{and-l, and-r, count-cat, count-one}
 use Rattle.klaim.specs.Process.{In, Read, template, clash, usedIn, boundIn}
 use Rattle.klaim.specs.declared.Loc.{Loc}
 use Rattle.klaim.specs.declared.Slot.{Slot}
@@ -58,7 +58,7 @@ count-names u [] p = refl
 count-names u (m ∷ ms) p =
     let a = count-name u m (and-l _ _ p) in
     let b = count-names u ms (and-r _ _ p) in
-    rw (count-union u (usedIn (slot m)) (concat usedIn (map slot ms)), count-union u (boundIn (slot m)) (concat boundIn (map slot ms))) (omega arith)
+    rw (count-cat u (usedIn (slot m)) (concat usedIn (map slot ms)), count-cat u (boundIn (slot m)) (concat boundIn (map slot ms))) (omega arith)
 
 -- a test of the variables that are bound
 bound-slot : (m : Name) → boundIn (slot m) ≡ only (eqb (m .kind) 4) (m .number)
@@ -97,7 +97,7 @@ clash-names f p =
     any-bound
     (λ u. ltb 1 (count u (concat usedIn (map slot (names f)) ⧺ concat boundIn (map slot (names f)))))
     (λ u. leb (sum (hits u) (names f)) 1)
-    (λ u. rw (count-union u (concat usedIn (map slot (names f))) (concat boundIn (map slot (names f))), count-names u (names f) p) (more-not (sum (hits u) (names f))))
+    (λ u. rw (count-cat u (concat usedIn (map slot (names f))) (concat boundIn (map slot (names f))), count-names u (names f) p) (more-not (sum (hits u) (names f))))
     (names f)
 
 -- by the kind of the line

@@ -20,7 +20,8 @@ use Rattle.klaim.specs.Net.{Net, Estimate}
 use Rattle.klaim.specs.Reader.{refused, gives, readArrival}
 use Rattle.klaim.specs.Engine.{Result, brought, joined, bringRead, bring}
 use Rattle.klaim.specs.Invariant.{allBelow, Invariant}
-use Rattle.klaim.proofs.Reader.{ArrivalRead as ReadOk, arrival-read}
+use Rattle.klaim.specs.WellFormed.{ArrivalRead as ReadOk}
+use Rattle.klaim.proofs.Reader.{arrival-read}
 use Rattle.klaim.proofs.Invariant.{bring-keeps}
 use Rattle.klaim.proofs.Process.{tree-old, ordered-join}
 use Rattle.sets.proofs.Tables.{same-table, length-table}

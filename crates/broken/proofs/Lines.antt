@@ -9,7 +9,7 @@ use native.Mathlib.Decide.{ℕ-discrete}
 use borrow.Author.Tests.{ne-eqb}
 use lib.ListN.{length, getD}
 use Rattle.sets.specs.Lists.{All, done, more}
-use Rattle.sets.proofs.Lists.{All-union, All-only}
+use Rattle.sets.proofs.Lists.{All-cat, All-only}
 use Rattle.klaim.specs.Process.{Line, Nil, Par, Rep, Out, In, Read, Eval, Accept, Tree, nilT, parT, repT, outT, getT, evalT, acceptT, node, trees, tree}
 use Rattle.klaim.specs.Net.{Net, Estimate}
 use Rattle.klaim.specs.Analysis.{reach, broken, lesser, least}
@@ -54,11 +54,11 @@ tree-low ls q = getD-low (length ls) (trees 0 ls) (trees-low 0 (length ls) ls (o
 broken-in : (N : Net) (E : Estimate) (n P : ℕ) (t : Tree) → Low n t → All (λ q. q < n) (broken N E P t)
 unfolding broken
 broken-in N E n P nilT l = done
-broken-in N E n P (parT a b) l = All-union (broken-in N E n P a (l .0)) (broken-in N E n P b (l .1))
+broken-in N E n P (parT a b) l = All-cat (broken-in N E n P a (l .0)) (broken-in N E n P b (l .1))
 broken-in N E n P (repT a) l = broken-in N E n P a l
-broken-in N E n P (outT q g fs a) l = All-union (All-only _ q (l .0)) (broken-in N E n P a (l .1))
-broken-in N E n P (getT q r g fs a) l = All-union (All-only _ q (l .0)) (broken-in N E n P a (l .1))
-broken-in N E n P (evalT q g k b a) l = All-union (All-only _ q (l .0)) (All-union (broken-in N E n (reach E P g) b (l .1)) (broken-in N E n P a (l .2)))
+broken-in N E n P (outT q g fs a) l = All-cat (All-only _ q (l .0)) (broken-in N E n P a (l .1))
+broken-in N E n P (getT q r g fs a) l = All-cat (All-only _ q (l .0)) (broken-in N E n P a (l .1))
+broken-in N E n P (evalT q g k b a) l = All-cat (All-only _ q (l .0)) (All-cat (broken-in N E n (reach E P g) b (l .1)) (broken-in N E n P a (l .2)))
 broken-in N E n P (acceptT k a) l = broken-in N E n P a l
 
 -- the numbers of the broken lines of line q's process are below the number of lines

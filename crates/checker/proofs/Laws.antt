@@ -25,10 +25,10 @@ use Rattle.report.proofs.Ready.{rooted, given}
 use Rattle.verdict.specs.Verdict.{Tabled, Judgeable}
 use Rattle.worlds.specs.declared.WorldRead.{WorldRead}
 use Rattle.worlds.specs.World.{worldView, worldAnswer}
-use Rattle.checker.specs.Check.{Sound}
+use Rattle.checker.specs.Check.{WellFormed}
 
 -- both were read
-pub sound : (net estimate : List ℕ) (w : WorldRead) → worldAnswer w ≡ readBoth net estimate → w .number ≡ 0 → Sound w
+pub sound : (net estimate : List ℕ) (w : WorldRead) → worldAnswer w ≡ readBoth net estimate → w .number ≡ 0 → WellFormed w
 unfolding worldAnswer
 sound net estimate w e z =
     let g : readBoth net estimate ≡ gives (worldView w) = sym e ∙ ap (λ (b : Bool). cond b (gives (worldView w)) (refused (w .number) (w .row))) (eq-eqb (w .number) 0 z) in
@@ -57,11 +57,11 @@ module _ (w : WorldRead) where
   unfolding worldView estimateView
   hold-world = refl
 
-  pub rooted-world : Sound w → Rooted (w .net .nlines) (w .net .lines) (w .net .nroots) (w .net .roots)
+  pub rooted-world : WellFormed w → Rooted (w .net .nlines) (w .net .lines) (w .net .nroots) (w .net .roots)
   unfolding worldView
   rooted-world S = rooted (w .net) (S .net)
 
-module _ (w : WorldRead) (S : Sound w) where
+module _ (w : WorldRead) (S : WellFormed w) where
   pub judgeable : length (w .net .tuples) ≡ 1536 → length (w .net .lines) ≡ 2560 → length (w .estimate .stand) ≡ 1536 → Judgeable (w .net .tuples) (w .net .ntuples) (w .net .roots) (w .net .nroots) (w .net .lines) (w .net .nlines) (w .estimate .stand) (w .estimate .nstand)
   unfolding worldView netView estimateView rowsView
   judgeable t l s = record {

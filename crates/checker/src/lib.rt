@@ -9,7 +9,7 @@ ghost use Rattle.klaim.specs.Check.{checkRead};
 ghost use Rattle.klaim.specs.Reader.{gives};
 ghost use Rattle.worlds.specs.World.{worldView};
 ghost use Rattle.verdict.specs.Verdict.{verdictView};
-ghost use Rattle.checker.specs.Check.{Sound, Checks, answerView};
+ghost use Rattle.checker.specs.Check.{WellFormed, Checks, answerView};
 use verdict::Verdict;
 use worlds::WorldRead;
 
@@ -27,7 +27,7 @@ const SHORT_BUFFER: u8 = 9;
 
 // The verdict on a net and its estimate.
 pub fn judged(w: WorldRead) -> Verdict
-    requires { ⌜ Sound w ⌝ }
+    requires { ⌜ WellFormed w ⌝ }
     ensures { λ r. ⌜ verdictView r ≡ verdictOf (worldView w .net) (worldView w .estimate) ⌝ }
 {
     verdict::judge(
@@ -47,7 +47,7 @@ pub fn judged(w: WorldRead) -> Verdict
 
 // The report of a net and its estimate.
 pub fn reported(w: WorldRead) -> [u8; 1024]
-    requires { ⌜ Sound w ⌝ }
+    requires { ⌜ WellFormed w ⌝ }
     ensures { λ r. ⌜ r ≡ reportOf (worldView w .net) (worldView w .estimate) ⌝ }
 {
     report::report(
@@ -77,7 +77,7 @@ fn write_report(buffer: &mut [u8], bytes: [u8; 1024])
 
 // The answer on a net and its estimate that were read; the report is written where they are accepted.
 fn check_read(w: WorldRead, buffer: &mut [u8]) -> Answer
-    requires { ⌜ Sound w ⌝ }
+    requires { ⌜ WellFormed w ⌝ }
     requires { ⌜ 1024 ≤ length (now buffer) ⌝ }
     ensures { λ r. ⌜ length (now (buffer .exit)) ≡ length (now (buffer .entry)) ⌝ }
     ensures { λ r. ⌜ answerView r ≡ checkRead (now (buffer .entry)) (gives (worldView w)) .answer ⌝ }

@@ -8,7 +8,7 @@ use native.Mathlib.Omega.{arith}
 use lib.ListN.{length, getD, replicate, getD-replicate}
 use Rattle.sets.specs.Lists.{_&_, only, keep, sum, below, table}
 use Rattle.sets.specs.Bits.{has, meet, size, everyRight}
-use Rattle.sets.proofs.Lists.{length-union, and-true}
+use Rattle.sets.proofs.Lists.{length-cat, and-true}
 use Rattle.sets.proofs.Tables.{length-table, getD-table}
 use Rattle.sets.proofs.Bits.{has-and}
 use Rattle.sets.proofs.Runs.{sum-most, sum-within, sum-same}
@@ -23,7 +23,7 @@ one m r = length (only (has m r) r)
 
 parts : (m : ℕ) → size m ≡ one m 1 + (one m 2 + (one m 4 + (one m 8 + one m 16)))
 unfolding size keep
-parts m = simp length-union (omega arith)
+parts m = simp length-cat (omega arith)
 
 fewer : (x y : Bool) (r : ℕ) → length (only (x & y) r) ≤ length (only x r)
 unfolding _&_ only

@@ -10,7 +10,7 @@ use lib.ListN.{length, take, getD}
 use borrow.Author.Tests.{eq-eqb, ne-eqb}
 use Rattle.sets.specs.Lists.{only, keep, sum, below}
 use Rattle.sets.specs.Bits.{has, size}
-use Rattle.sets.proofs.Lists.{length-union}
+use Rattle.sets.proofs.Lists.{length-cat}
 use Rattle.sets.proofs.Runs.{sum-below, sum-take}
 
 -- a bit, as a number
@@ -24,7 +24,7 @@ bit m r = go (ℕ-discrete (m / r % 2) 1)
 
 pub size-bits : (m : ℕ) → size m ≡ m % 2 + m / 2 % 2 + m / 4 % 2 + m / 8 % 2 + m / 16 % 2
 unfolding size keep
-size-bits m = simp (length-union, bit) (omega arith)
+size-bits m = simp (length-cat, bit) (omega arith)
 
 -- a set has at most five rights
 pub size-most : (m : ℕ) → size m ≤ 5

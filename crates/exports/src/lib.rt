@@ -1,5 +1,6 @@
-//! The public calls on byte slices and numbers, for the timing in `reference/bench`. A state does not leave the library: each engine
-//! call begins from the texts, and does its work `count` times. Proved safe and ending; what is promised stands at the calls themselves.
+//! For the timing in `reference/bench` alone: functions on byte slices and numbers that make the public calls. A state does not leave
+//! the library: each begins from the texts, and does its work `count` times. They are proved safe and ending, and promise no more; what
+//! is promised of a public call stands at that call.
 ghost use mathlib.Core.Path.{_≡_};
 ghost use Prim.Native.Nat.{_<_, _≤_};
 ghost use Rattle.state.specs.Fits.{Fits};
@@ -50,15 +51,10 @@ pub extern "C" fn salmurkki_read(net: &[u8], estimate: &[u8]) -> u32 {
     w.number as u32
 }
 
-// A byte as a count.
-fn wide(b: u8) -> usize {
-    b as usize
-}
-
 // Byte i of the choices, 0 beyond them.
 fn choice(choices: &[u8], i: usize) -> usize {
     if i < choices.len() {
-        return wide(choices[i]);
+        return tables::wide(choices[i]);
     }
     0
 }

@@ -18,7 +18,7 @@ use Rattle.lines.specs.declared.Four.{Four}
 use Rattle.lines.specs.Lines.{names, fitAll, present, nameFits, fieldsFit, lineOf, lineShape, lineGood}
 use Rattle.forms.specs.declared.RowData.{RowData}
 use Rattle.forms.specs.Forms.{listed, plainRow, rowData, rowView, pairGroup, tupleGroup, plainShape, plainGood, rowGood}
-use Rattle.sets.proofs.Runs.{union-none}
+use Rattle.sets.proofs.Runs.{cat-none}
 use Rattle.forms.proofs.RowForms.{rowAs, numbers, pair-case, tuple-case, pair-some, tuple-some}
 
 -- one part of what stands in a row
@@ -127,7 +127,7 @@ module _ (r : RowData) (G : rowGood r ≡ true) where
   pub view-d : r .group ≡ groupD → (rowView r ≡ some (rowAs (r .group) (r .size) (r .line .sandbox ∷ []) [] (sitesTo (r .line .target)) [] (r .rights))) × (0 < r .rights)
   view-d e =
       let P = parts (and-r _ _ (shape-d e)) in
-      (row-from r _ [] _ [] (rw e) (and-l _ _ (shape-d e)) (there _ (P .sandbox-is)) (absent _ (P .variable-is)) (rw (no-fields _ (P .fields-is)) (union-none _)) (absent _ (P .own-is)), ltb-true 0 (r .rights) (P .rights-is))
+      (row-from r _ [] _ [] (rw e) (and-l _ _ (shape-d e)) (there _ (P .sandbox-is)) (absent _ (P .variable-is)) (rw (no-fields _ (P .fields-is)) (cat-none _)) (absent _ (P .own-is)), ltb-true 0 (r .rights) (P .rights-is))
 
   shape-tuple : tupleGroup (r .group) ≡ true → eqb (r .line .kind) 0 & plainShape false false false false 1 1 r ≡ true
   unfolding rowGood plainGood plainShape lineShape pairGroup tupleGroup either

@@ -22,7 +22,7 @@ use Rattle.lines.specs.Lines.{names, present, lineOf, lineShape, lineGood}
 use Rattle.forms.specs.declared.RowData.{RowData}
 use Rattle.forms.specs.Forms.{listed, plainRow, rowData, pairGroup, tupleGroup, plainShape, plainGood, rowGood}
 use Rattle.judge.specs.Judge.{lowNumber, lowName, lowNames, lowNumbers, lowSize, lowVariable, rowLimits}
-use Rattle.judge.proofs.Tests.{all-union, all-and, all-agree, all-concat, none-reaches}
+use Rattle.judge.proofs.Tests.{all-cat, all-and, all-agree, all-concat, none-reaches}
 use Rattle.judge.proofs.Names.{name-low, fields-fit, Parts, parts, names-test}
 
 -- a number, if there is one
@@ -146,7 +146,7 @@ module _ (most n : ℕ) (h : 1 ≤ most) where
   plain-names : {r : RowData} → Plain r → all (under n) (sitesTo (r .line .target) ⧺ map (λ (m : Name). m .number) (names (r .line .fields))) ≡ lowNames most n (r .line)
   unfolding lowNames
   plain-names {r} P =
-      all-union (under n) (sitesTo (r .line .target)) (map (λ (m : Name). m .number) (names (r .line .fields)))
+      all-cat (under n) (sitesTo (r .line .target)) (map (λ (m : Name). m .number) (names (r .line .fields)))
       ∙ rw (site-target (r .line .target) (P .target-low), all-map (under n) (λ (m : Name). m .number) (names (r .line .fields)), all-agree (upTo 1) (λ m. under n (m .number)) (lowName most n) site-field (names (r .line .fields)) (P .fields-low))
 
 -- 4
@@ -189,7 +189,7 @@ line-names n {d} P =
     let ss = slotsOf (lineOf d) in
     sym (names-test (lowSlot n) (lowName 4 n) (low-slot n) (no-name 4 n) P)
     ∙ sym (all-and (λ s. all (under n) (usedIn s) & all (under n) (boundIn s)) (λ s. all (under n) (sitesIn s)) ss)
-    ∙ rw (all-union (under n) (concat usedIn ss) (concat boundIn ss), all-concat (under n) usedIn ss, all-concat (under n) boundIn ss, all-concat (under n) sitesIn ss, all-and (λ s. all (under n) (usedIn s)) (λ s. all (under n) (boundIn s)) ss)
+    ∙ rw (all-cat (under n) (concat usedIn ss) (concat boundIn ss), all-concat (under n) usedIn ss, all-concat (under n) boundIn ss, all-concat (under n) sitesIn ss, all-and (λ s. all (under n) (usedIn s)) (λ s. all (under n) (boundIn s)) ss)
 
 own-low : (limit q : ℕ) → q < noNumber → lowNumber limit q ≡ ltb q limit
 unfolding lowNumber either
@@ -199,7 +199,7 @@ q-limits : (q : ℕ) {d : LineData} → Parts d → q < noNumber → lowNumber l
 unfolding inLimits rowLine lowNumbers imp all _&_
 q-limits q {d} P h =
     let ss = slotsOf (lineOf d) in
-    rw (line-names siteLimit P, own-low lineLimit q h, P .boxes-are, low-listed boxLimit (d .sandbox), P .lines-are, all-union (under lineLimit) (listed (d .next)) (listed (d .other)), low-listed lineLimit (d .next), low-listed lineLimit (d .other))
+    rw (line-names siteLimit P, own-low lineLimit q h, P .boxes-are, low-listed boxLimit (d .sandbox), P .lines-are, all-cat (under lineLimit) (listed (d .next)) (listed (d .other)), low-listed lineLimit (d .next), low-listed lineLimit (d .other))
     (q-order (ltb q lineLimit) (lowNumber lineLimit (d .next)) (lowNumber lineLimit (d .other)) (lowNumber boxLimit (d .sandbox)) (all (under varLimit) (concat usedIn ss ⧺ concat boundIn ss)) (all (under siteLimit) (concat sitesIn ss)))
 
 none-low : (limit n : ℕ) → n ≡ noNumber → lowNumber limit n ≡ true

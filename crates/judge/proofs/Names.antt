@@ -21,7 +21,7 @@ use Rattle.lines.specs.Lines.{names, fitAll, present, nameFits, fieldsFit, getK
 use Rattle.forms.specs.Forms.{listed}
 use Rattle.forms.proofs.Views.{there, absent, no-fields}
 use Rattle.judge.specs.Judge.{firstOf}
-use Rattle.judge.proofs.Tests.{all-union, all-only, all-agree}
+use Rattle.judge.proofs.Tests.{all-cat, all-only, all-agree}
 
 listed-is : (a : Bool) (n : ℕ) → present a n ≡ true → listed n ≡ only a n
 unfolding only
@@ -183,5 +183,5 @@ module _ (f : Slot → Bool) (g : Name → Bool) (same : (m : Name) → upTo 4 m
   pub names-test : all f (slotsOf (lineOf d)) ≡ g (d .target) & all g (names (d .fields))
   names-test =
       ap (all f) (P .slots-are)
-      ∙ all-union f (only (ltb 0 (d .target .kind)) (slot (d .target))) (map slot (names (d .fields)))
+      ∙ all-cat f (only (ltb 0 (d .target .kind)) (slot (d .target))) (map slot (names (d .fields)))
       ∙ rw (all-only f (ltb 0 (d .target .kind)) (slot (d .target)), target-test, all-map f slot (names (d .fields)), all-agree (upTo 4) (λ m. f (slot m)) g same (names (d .fields)) (P .fields-low))

@@ -18,10 +18,10 @@ cross true false false d = refl
 cross false b c d = refl
 
 module _ {A : Type 0} where
-  pub all-union : (f : A → Bool) (xs ys : List A) → all f (xs ⧺ ys) ≡ all f xs & all f ys
+  pub all-cat : (f : A → Bool) (xs ys : List A) → all f (xs ⧺ ys) ≡ all f xs & all f ys
   unfolding all _⧺_ _&_
-  all-union f [] ys = refl
-  all-union f (x ∷ xs) ys = ap (λ (b : Bool). f x & b) (all-union f xs ys) ∙ sym (and-assoc (f x) (all f xs) (all f ys))
+  all-cat f [] ys = refl
+  all-cat f (x ∷ xs) ys = ap (λ (b : Bool). f x & b) (all-cat f xs ys) ∙ sym (and-assoc (f x) (all f xs) (all f ys))
 
   pub all-only : (f : A → Bool) (b : Bool) (x : A) → all f (only b x) ≡ imp b (f x)
   unfolding all only imp
@@ -42,7 +42,7 @@ module _ {A : Type 0} where
 pub all-concat : {A B : Type 0} (f : B → Bool) (g : A → List B) (xs : List A) → all f (concat g xs) ≡ all (λ x. all f (g x)) xs
 unfolding all concat
 all-concat f g [] = refl
-all-concat f g (x ∷ xs) = all-union f (g x) (concat g xs) ∙ ap (λ (b : Bool). all f (g x) & b) (all-concat f g xs)
+all-concat f g (x ∷ xs) = all-cat f (g x) (concat g xs) ∙ ap (λ (b : Bool). all f (g x) & b) (all-concat f g xs)
 
 -- no site reaches n
 pub none-reaches : (n : ℕ) (xs : List ℕ) → not (any (λ s. leb n s) xs) ≡ all (λ s. ltb s n) xs

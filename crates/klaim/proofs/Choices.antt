@@ -7,25 +7,13 @@ use Prim.Native.Nat.{ℕ, zero, suc, _*_, _≤_}
 use native.Mathlib.Omega.{arith}
 use lib.Dec.{eqb}
 use lib.ListN.{length, length-map}
-use Rattle.sets.specs.Lists.{Elem, first, later, All, more, _&_, any, only, keep, concat, same, among, below, tableFrom, table, _⧺_}
+use Rattle.sets.specs.Lists.{Elem, first, later, All, more, any, only, keep, concat, same, among, fits, product, below, tableFrom, table, _⧺_}
 use Rattle.sets.specs.Bits.{mem, sites}
-use Rattle.sets.proofs.Lists.{and-l, and-r, and-i, in-none, in-map, in-concat, in-keep, keep-out, map-out, all-at, all-i, any-in, in-any, among-in, any-i, same-eq, same-refl, not-yes, eq-eqb, eqb-eq, iff, length-union}
+use Rattle.sets.proofs.Lists.{and-l, and-r, and-i, in-none, in-map, in-concat, in-keep, keep-out, map-out, all-at, all-i, any-in, in-any, among-in, any-i, same-eq, same-refl, not-yes, eq-eqb, eqb-eq, iff, length-cat}
 use Rattle.sets.proofs.Counting.{Unlike, none, within-short, within-full, unlike-map, unlike-concat, concat-out}
 use Rattle.sets.proofs.Counting as Counting
 use Rattle.klaim.specs.Analysis.{choices}
 use Rattle.klaim.specs.Invariant.{distinct}
-
--- a row has as many fields as there are sets, each within its set
-unfoldable pub fits : List (List ℕ) → List ℕ → Bool
-fits [] [] = true
-fits [] (v ∷ vs) = false
-fits (xs ∷ xss) [] = false
-fits (xs ∷ xss) (v ∷ vs) = among xs v & fits xss vs
-
--- how many choices there are
-unfoldable pub product : List (List ℕ) → ℕ
-product [] = 1
-product (xs ∷ xss) = length xs * product xss
 
 -- all choices
 combos : List (List ℕ) → List (List ℕ)
@@ -69,7 +57,7 @@ combo-fits (xs ∷ xss) row i =
 concat-long : {A B : Type 0} (f : A → List B) (n : ℕ) → ((x : A) → length (f x) ≡ n) → (xs : List A) → length (concat f xs) ≡ length xs * n
 unfolding concat
 concat-long f n h [] = omega arith
-concat-long f n h (x ∷ xs) = omega (arith, length-union (f x) (concat f xs), h x, concat-long f n h xs)
+concat-long f n h (x ∷ xs) = omega (arith, length-cat (f x) (concat f xs), h x, concat-long f n h xs)
 
 combos-long : (xss : List (List ℕ)) → length (combos xss) ≡ product xss
 unfolding combos product

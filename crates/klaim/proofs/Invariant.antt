@@ -11,7 +11,7 @@ use lib.Dec.{leb, ltb}
 use lib.ListN.{length, getElem?, length-append, length-map, length-replicate, List·getD-append}
 use Rattle.sets.specs.Lists.{Elem, first, later, All, done, more, _&_, either, all, empty, splice, concat, among, _⧺_}
 use Rattle.sets.specs.Bits.{inBit, readBit}
-use Rattle.sets.proofs.Lists.{and-l, and-r, in-none, all-at, all-i, all-none, all-turn, all-snoc, all-append, all-map, all-splice, all-get, among-in, empty-none, All-get, All-append, All-splice, All-turn, All-in, All-concat, ltb-lt, lt-ltb, leb-le, in-concat, in-right, in-map, cond-at, length-union}
+use Rattle.sets.proofs.Lists.{and-l, and-r, in-none, all-at, all-i, all-none, all-turn, all-snoc, all-append, all-map, all-splice, all-get, among-in, empty-none, All-get, All-append, All-splice, All-turn, All-in, All-concat, ltb-lt, lt-ltb, leb-le, in-concat, in-right, in-map, cond-at, length-cat}
 use Rattle.sets.proofs.Tables.{length-table}
 use Rattle.klaim.specs.declared.Loc.{Loc}
 use Rattle.klaim.specs.declared.Slot.{Slot}
@@ -22,7 +22,8 @@ use Rattle.klaim.specs.Reader.{Answer, refused, gives, World, readBoth}
 use Rattle.klaim.specs.State.{Bindings, Thread, State, unbound, isNil, settle, homePolicy, boxPolicy, rootThread, begin, start}
 use Rattle.klaim.specs.Engine.{Event, silent, Result, joined, bringRead, bring, value, bindAll, agrees, to, under, after, Plan, stop, quiet, act, getPlan, acceptPlan, plan, permits, limit, finish, stepOf, step}
 use Rattle.klaim.specs.Invariant.{allBelow, lineFits, distinct, ArrivalOk, ThreadOk, Invariant}
-use Rattle.klaim.proofs.Reader.{RootOk, NetOk, EstimateOk, ArrivalRead, then-gives, arrival-read, both-read}
+use Rattle.klaim.specs.WellFormed.{RootOk, NetOk, EstimateOk, ArrivalRead}
+use Rattle.klaim.proofs.Reader.{then-gives, arrival-read, both-read}
 use Rattle.klaim.proofs.Process.{child-line, tree-node, tree-old, free-new, ordered-join, used-free, child-free}
 use Rattle.klaim.proofs.Bindings.{BoundTo, Holds, unbound-holds, BindsLow, bind-long, bind-holds, bind-kept, bind-new, each-all, LocOk, value-low}
 
@@ -338,7 +339,7 @@ settle-short ls th = cond-at (λ (ts : List Thread). length ts ≤ 1) (isNil (li
 concat-short : {A B : Type 0} (f : A → List B) → ((x : A) → length (f x) ≤ 1) → (xs : List A) → length (concat f xs) ≤ length xs
 unfolding concat
 concat-short f h [] = omega arith
-concat-short f h (x ∷ xs) = omega (arith, length-union (f x) (concat f xs), h x, concat-short f h xs)
+concat-short f h (x ∷ xs) = omega (arith, length-cat (f x) (concat f xs), h x, concat-short f h xs)
 
 root-stands : (N : Net) (r : Root) → RootOk N r → Standing (N .size) (N .lines) (rootThread N r)
 unfolding rootThread homePolicy

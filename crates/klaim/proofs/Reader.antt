@@ -1,4 +1,4 @@
--- What the reader ascertains of a net, of an estimate and of an arrival.
+-- What is read is well-formed.
 -- Assumes nothing.
 use mathlib.Core.Path.{_≡_, refl, ap, subst, _∙_}
 use mathlib.Core.Bool.{true, false, not}
@@ -6,53 +6,17 @@ use mathlib.Core.List.{List, [], _∷_, map}
 use Prim.Native.Nat.{ℕ, _+_, _-_, _<_, _≤_}
 use native.Mathlib.Omega.{arith}
 use lib.ListN.{length, length-map}
-use Rattle.sets.specs.Lists.{Elem, first, All, _&_, either, all, empty}
+use Rattle.sets.specs.Lists.{Elem, first, _&_, either, all, empty}
 use Rattle.sets.proofs.Lists.{and-l, and-r, and-i, not-no, neither-l, cond-at, eqb-eq, nleb-lt, ltb-lt, all-at, all-i, All-in, In-All, map-out, in-map, keep-out}
 use Rattle.sets.proofs.Tables.{length-table}
-use Rattle.klaim.specs.Limits.{siteLimit, tupleLimit, threadLimit, lineLimit}
+use Rattle.klaim.specs.Limits.{tupleLimit, threadLimit, lineLimit}
 use Rattle.klaim.specs.Process.{Line, ordered, tree, free}
 use Rattle.klaim.specs.Rows.{Row, groupT, groupL, groupQ, groupA, rowLine}
 use Rattle.klaim.specs.Net.{Root, Net, Estimate}
-use Rattle.klaim.specs.Invariant.{allBelow, lineFits, distinct}
+use Rattle.klaim.specs.Invariant.{allBelow, lineFits}
+use Rattle.klaim.specs.WellFormed.{NetOk, EstimateOk, ArrivalRead}
 use Rattle.klaim.specs.Reader.{Answer, refused, gives, andThen, Text, aNet, anEstimate, anArrival, inLimits, ofGroup, present, full, siteCount, readRows, inTurn, namedOnce, rootsClosed, whole, nth, gather, rootOf, linesOf, netOf, estimateOf, wholeNet, readNet, readEstimate, readArrival, World, readBoth}
 use Rattle.klaim.proofs.Scan.{RowOk, refused-none, rows-ok, rows-few, rows-distinct, net-size}
-
--- a root stands at a site, on a line, and has no free variable
-pub record RootOk (N : Net) (r : Root) : Type 0 where
-  pub placed : r .site < N .size
-  pub present : r .line < length (N .lines)
-  pub closed : empty (free (tree (N .lines) (r .line))) ≡ true
-
--- what 1 to 8 leave of a net
-pub record NetOk (N : Net) : Type 0 where
-  pub sites-some : 1 ≤ N .size
-  pub sites-few : N .size ≤ siteLimit
-  pub homes-long : length (N .homes) ≡ 1024
-  pub boxes-long : length (N .boxes) ≡ 1056
-  pub tuples-few : length (N .tuples) ≤ tupleLimit
-  pub tuples-fit : all (allBelow (N .size)) (N .tuples) ≡ true
-  pub roots-few : length (N .roots) ≤ threadLimit
-  pub roots-ok : All (RootOk N) (N .roots)
-  pub lines-few : length (N .lines) ≤ lineLimit
-  pub lines-ordered : ordered (N .lines) ≡ true
-  pub lines-fit : all (lineFits (N .size)) (N .lines) ≡ true
-  pub named-once : namedOnce (N .lines) (map (λ r. r .line) (N .roots)) ≡ true
-
--- what 1 to 4 leave of an estimate, among n sites
-pub record EstimateOk (n : ℕ) (E : Estimate) : Type 0 where
-  pub binds-long : length (E .binds) ≡ 32
-  pub stand-few : length (E .stand) ≤ tupleLimit
-  pub stand-fit : all (allBelow n) (E .stand) ≡ true
-  pub stand-distinct : distinct (E .stand) ≡ true
-  pub hold-long : length (E .hold) ≡ 1024
-
--- what 1 to 8 leave of an arrival, among n sites and behind d lines
-pub record ArrivalRead (n d : ℕ) (ls : List Line) : Type 0 where
-  pub some-line : 0 < length ls
-  pub few : d + length ls ≤ lineLimit
-  pub lines-ordered : ordered ls ≡ true
-  pub lines-fit : all (lineFits n) ls ≡ true
-  pub closed : empty (free (tree ls 0)) ≡ true
 
 module _ {A B : Type 0} where
   -- both parts of two readings gave something

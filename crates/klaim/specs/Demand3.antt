@@ -4,11 +4,11 @@ use mathlib.Core.Path.{_≡_}
 use mathlib.Core.Bool.{Bool, true, false, not}
 use mathlib.Core.List.{List, [], _∷_, map}
 use mathlib.Core.Option.{Option, none, some}
-use Prim.Native.Nat.{ℕ, _+_, _*_}
+use Prim.Native.Nat.{ℕ}
 use lib.ListN.{getD, getElem?, take, replicate}
 use Rattle.sets.specs.Lists.{Elem, All, either}
 use Rattle.sets.specs.Bits.{has, mem}
-use Rattle.klaim.specs.Limits.{reportSize}
+use Rattle.klaim.specs.Limits.{reportSize, pairIndex}
 use Rattle.klaim.specs.Net.{Net, Estimate, home, may}
 use Rattle.klaim.specs.Reader.{Answer, refused, gives}
 use Rattle.klaim.specs.Analysis.{accepted}
@@ -47,7 +47,7 @@ acting st (guarded k m r) = getElem? (st .threads) k
 
 -- "the report lists it if byte 32 × site + target has that right"
 unfoldable pub listed : List ℕ → ℕ → ℕ → ℕ → Bool
-listed report s t right = has (getD report (32 * s + t) 0) right
+listed report s t right = has (getD report (pairIndex s t) 0) right
 
 -- "they forbid any other performed one if, just before it, thread k's policy or the home policy of its site lacks the answered
 -- right on the answered target"

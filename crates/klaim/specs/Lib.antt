@@ -10,5 +10,6 @@ pub mod Check
 pub mod State
 pub mod Engine
 pub mod Invariant
+pub mod WellFormed
 pub mod Listing
 pub mod Demand3

@@ -1,6 +1,6 @@
--- The limits of document 01, each named once.
+-- The limits and sizes of document 01, and where its tables have their bytes.
 -- Assumes nothing.
-use Prim.Native.Nat.{ℕ}
+use Prim.Native.Nat.{ℕ, _+_, _*_}
 
 -- "Sites are s0 to s31"
 abbrev pub siteLimit : ℕ
@@ -37,3 +37,25 @@ reportSize = 1024
 -- "at most 64 KiB"
 abbrev pub inputLimit : ℕ
 inputLimit = 65536
+
+-- a policy of every site has a byte for each pair of sites, as the report has
+abbrev pub policySize : ℕ
+policySize = 1024
+
+-- "byte 32 × subject + object"
+abbrev pub pairIndex : ℕ → ℕ → ℕ
+pairIndex s t = siteLimit * s + t
+
+-- the sandboxes have a byte for each of 32 sites, and one more: "A sandbox may also have a row for `self`"
+abbrev pub boxWidth : ℕ
+boxWidth = 33
+
+abbrev pub boxesSize : ℕ
+boxesSize = 1056
+
+abbrev pub boxIndex : ℕ → ℕ → ℕ
+boxIndex k t = boxWidth * k + t
+
+-- where t is `self`
+abbrev pub selfPlace : ℕ
+selfPlace = siteLimit

@@ -52,7 +52,7 @@ reported bytes = sum size bytes
 
 -- "V: subject, object, rights, non-empty only, in byte order"
 unfoldable pub rowV : List ℕ → ℕ → List ℕ
-rowV bytes i = row "V" (siteName (i / 32) ∷ siteName (i % 32) ∷ letters (getD bytes i 0) ∷ [])
+rowV bytes i = row "V" (siteName (i / siteLimit) ∷ siteName (i % siteLimit) ∷ letters (getD bytes i 0) ∷ [])
 
 -- the V rows of a report
 unfoldable pub rowsV : List ℕ → List ℕ
@@ -110,7 +110,7 @@ netPart input = take (before true input) input
 unfoldable pub estimatePart : List ℕ → List ℕ
 estimatePart input = drop (before true input + 2) input
 
--- "reads net, a row `.`, estimate from standard input (at most 64 KiB; longer is 2, row 0)"
+-- "reads net, a row `.`, estimate from standard input (at most 64 KiB; longer is 2, row 0; .. without one the estimate is empty)"
 unfoldable pub listing : List ℕ → List ℕ
 listing input =
     elim (ltb inputLimit (length input)) [

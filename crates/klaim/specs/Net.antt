@@ -2,10 +2,11 @@
 -- Assumes nothing.
 use mathlib.Core.Bool.{cond}
 use mathlib.Core.List.{List}
-use Prim.Native.Nat.{ℕ, _+_, _*_}
+use Prim.Native.Nat.{ℕ}
 use lib.Dec.{eqb}
 use lib.ListN.{getD}
 use Rattle.sets.specs.Bits.{meet}
+use Rattle.klaim.specs.Limits.{pairIndex, boxIndex, selfPlace}
 use Rattle.klaim.specs.Process.{Line}
 
 -- "`L,s,q`: process line q runs at s under the home policy"
@@ -30,15 +31,15 @@ pub record Estimate : Type 0 where
 
 -- "home policy of site s towards t", "empty where no row speaks"
 unfoldable pub home : Net → ℕ → ℕ → ℕ
-home N s t = getD (N .homes) (32 * s + t) 0
+home N s t = getD (N .homes) (pairIndex s t) 0
 
 -- "sandbox k (0 to 31) towards t": d(t)
 unfoldable pub box : Net → ℕ → ℕ → ℕ
-box N k t = getD (N .boxes) (33 * k + t) 0
+box N k t = getD (N .boxes) (boxIndex k t) 0
 
 -- "A sandbox may also have a row for `self`": d(self)
 unfoldable pub boxSelf : Net → ℕ → ℕ
-boxSelf N k = getD (N .boxes) (33 * k + 32) 0
+boxSelf N k = getD (N .boxes) (boxIndex k selfPlace) 0
 
 -- "Evaluated at site l, sandbox d gives site t the set d(t), but gives l itself d(l) ∩ d(self)."
 unfoldable pub boxAt : Net → ℕ → ℕ → ℕ → ℕ
@@ -50,4 +51,4 @@ may E u = getD (E .binds) u 0
 
 -- "`E,s,t,rights` (sandboxes at s may hold these towards t)"
 unfoldable pub holds : Estimate → ℕ → ℕ → ℕ
-holds E s t = getD (E .hold) (32 * s + t) 0
+holds E s t = getD (E .hold) (pairIndex s t) 0

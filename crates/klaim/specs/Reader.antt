@@ -3,12 +3,12 @@
 use mathlib.Core.Bool.{Bool, true, not, cond}
 use mathlib.Core.List.{List, [], _∷_, _++_, map}
 use mathlib.Core.Option.{Option, none, some}
-use Prim.Native.Nat.{ℕ, suc, _+_, _*_, _^_}
+use Prim.Native.Nat.{ℕ, suc, _+_, _^_}
 use lib.Dec.{eqb, leb, ltb}
 use lib.ListN.{length, getD}
 use Rattle.sets.specs.Lists.{_&_, either, imp, all, any, keep, empty, table, below, same, count, concat, _⧺_}
 use Rattle.sets.specs.Bits.{grant, joins}
-use Rattle.klaim.specs.Limits.{siteLimit, varLimit, boxLimit, tupleLimit, threadLimit, lineLimit}
+use Rattle.klaim.specs.Limits.{siteLimit, varLimit, boxLimit, tupleLimit, threadLimit, lineLimit, policySize, pairIndex, boxesSize, boxIndex, selfPlace}
 use Rattle.klaim.specs.Process.{Line, children, template, clash, ordered, tree, free}
 use Rattle.klaim.specs.Rows.{Row, groupN, groupR, groupD, groupT, groupL, groupQ, groupB, groupA, groupE, rowsOf}
 use Rattle.klaim.specs.Net.{Root, Net, Estimate}
@@ -158,11 +158,11 @@ gather n place value rows = table n (λ i. joins (λ r. grant (eqb (place r) i) 
 
 -- byte 32 × s + t of a row with two sites
 unfoldable pub pairPlace : Row → ℕ
-pairPlace r = 32 * nth (r .sites) 0 + nth (r .sites) 1
+pairPlace r = pairIndex (nth (r .sites) 0) (nth (r .sites) 1)
 
 -- byte 33 × k + t of a D row, which names no site for `self`
 unfoldable pub boxPlace : Row → ℕ
-boxPlace r = 33 * nth (r .boxes) 0 + getD (r .sites) 0 32
+boxPlace r = boxIndex (nth (r .boxes) 0) (getD (r .sites) 0 selfPlace)
 
 -- "`L,s,q`"
 unfoldable pub rootOf : Row → Root
@@ -180,8 +180,8 @@ linesOf rows = map (λ r. r .process) (ofGroup groupQ rows)
 unfoldable pub netOf : List Row → Net
 netOf rows = record {
   size = sizeOf rows;
-  homes = gather 1024 pairPlace (λ r. r .rights) (ofGroup groupR rows);
-  boxes = gather 1056 boxPlace (λ r. r .rights) (ofGroup groupD rows);
+  homes = gather policySize pairPlace (λ r. r .rights) (ofGroup groupR rows);
+  boxes = gather boxesSize boxPlace (λ r. r .rights) (ofGroup groupD rows);
   tuples = map (λ r. r .sites) (ofGroup groupT rows);
   roots = map rootOf (ofGroup groupL rows);
   lines = linesOf rows;
@@ -190,9 +190,9 @@ netOf rows = record {
 -- the estimate that the rows say
 unfoldable pub estimateOf : List Row → Estimate
 estimateOf rows = record {
-  binds = gather 32 (λ r. nth (r .vars) 0) (λ r. 2 ^ nth (r .sites) 0) (ofGroup groupB rows);
+  binds = gather varLimit (λ r. nth (r .vars) 0) (λ r. 2 ^ nth (r .sites) 0) (ofGroup groupB rows);
   stand = map (λ r. r .sites) (ofGroup groupA rows);
-  hold = gather 1024 pairPlace (λ r. r .rights) (ofGroup groupE rows);
+  hold = gather policySize pairPlace (λ r. r .rights) (ofGroup groupE rows);
 }
 
 -- "An empty net is 3, row 1."

@@ -60,7 +60,7 @@ module _ (N : Net) (E : Estimate) where
 
   -- report: "1,024 bytes, byte 32 × subject + object"
   unfoldable pub report : List ℕ
-  report = table reportSize (λ i. reportAt (i / 32) (i % 32))
+  report = table reportSize (λ i. reportAt (i / siteLimit) (i % siteLimit))
 
   -- "each of its eval lines adds nothing to a report"
   unfoldable pub addsNothing : ℕ → Tree → Bool

@@ -23,7 +23,7 @@ use Rattle.usable.specs.Rights.{Rights}
 use Rattle.worlds.specs.declared.WorldRead.{WorldRead}
 use Rattle.worlds.specs.World.{worldView, worldAnswer}
 use Rattle.worlds.proofs.Rows.{both-row}
-use Rattle.checker.specs.Check.{Sound}
+use Rattle.checker.specs.Check.{WellFormed}
 use Rattle.sets.proofs.Tables.{length-table}
 use Rattle.listing.specs.Lines.{acceptedList, Counts}
 use Rattle.listing.proofs.Listing.{accepted-list, counts-tables}
@@ -60,10 +60,10 @@ report-long w e = ap length e ∙ length-table 1024 _
 pub counts-by : (w : WorldRead) {held used : List ℕ} → held ≡ table 32 (homeCount (worldView w .net)) → used ≡ table 32 (usedCount (worldView w)) → Counts held used
 counts-by w {held} {used} a b = subst (λ (h : List ℕ). Counts h used) (sym a) (subst (Counts (table 32 (homeCount (worldView w .net)))) (sym b) (counts-tables (worldView w)))
 
-pub world-few : (w : WorldRead) → Sound w → worldView w .net .size ≤ 32
+pub world-few : (w : WorldRead) → WellFormed w → worldView w .net .size ≤ 32
 world-few w S = S .net .sites-few
 
-pub size-few : (w : WorldRead) → Sound w → w .net .size ≤ 32
+pub size-few : (w : WorldRead) → WellFormed w → w .net .size ≤ 32
 size-few w S = omega (arith, world-few w S, size-world w)
 
 -- what is listed, by the reading

@@ -9,7 +9,7 @@ ghost use Rattle.klaim.specs.Analysis.{accepted};
 ghost use Rattle.klaim.specs.Reader.{refused};
 ghost use Rattle.klaim.specs.Listing.{numeral, row as wordRow, rowsV, homeCount, usedCount, listVerdict, listRead, listing as listingOf};
 ghost use Rattle.worlds.specs.World.{worldView, worldAnswer};
-ghost use Rattle.checker.specs.Check.{Sound};
+ghost use Rattle.checker.specs.Check.{WellFormed};
 ghost use Rattle.writer.specs.Wrote.{Wrote};
 ghost use Rattle.listing.specs.Lines.{entryV, lineU, linesU, acceptedList, Counts};
 use verdict::Verdict;
@@ -100,7 +100,7 @@ const INPUT: usize = 65536;
 
 // The counts of the rights that each site uses of those it holds.
 fn used(w: WorldRead) -> [u32; 32]
-    requires { ⌜ Sound w ⌝ }
+    requires { ⌜ WellFormed w ⌝ }
     ensures { λ r. ⌜ r ≡ table 32 (usedCount (worldView w)) ⌝ }
 {
     usable::used_counts(
@@ -124,7 +124,7 @@ fn held(w: WorldRead) -> [u32; 32]
 
 // The listing of a net that is accepted.
 fn list_accepted(w: WorldRead, out: &mut [u8]) -> usize
-    requires { ⌜ Sound w × (17006 ≤ length (now out)) ⌝ }
+    requires { ⌜ WellFormed w × (17006 ≤ length (now out)) ⌝ }
     ensures { λ r. ⌜ Wrote (now (out .entry)) (now (out .exit)) 0 (listVerdict (worldView w) accepted) r ⌝ }
     ensures { λ r. ⌜ r ≤ 17006 ⌝ }
 {
@@ -155,7 +155,7 @@ fn put_break(out: &mut [u8], kind: u8, number: u16) -> usize
 
 // The listing of a net that was read, or of its refusal.
 fn list_read(w: WorldRead, out: &mut [u8]) -> usize
-    requires { ⌜ (w .number ≡ 0 → Sound w) × ((w .number ≡ 0 → ⊥) → w .row < 100000) × (17006 ≤ length (now out)) ⌝ }
+    requires { ⌜ (w .number ≡ 0 → WellFormed w) × ((w .number ≡ 0 → ⊥) → w .row < 100000) × (17006 ≤ length (now out)) ⌝ }
     ensures { λ r. ⌜ Wrote (now (out .entry)) (now (out .exit)) 0 (listRead (worldAnswer w)) r ⌝ }
     ensures { λ r. ⌜ r ≤ 17006 ⌝ }
 {

@@ -14,16 +14,15 @@ use lib.Pow.{shr-shr, shl-exact}
 use lib.Count.{trailingZeros, under, ones, onesIn, ones-step}
 use lib.ListN.{length, getD, take, drop, length-take, length-map, set, replicate, length-set, getD-replicate}
 use lib.Seq.{ext-getD, getD-take, getD-set-same, getD-set-other}
-use Rattle.sets.specs.Lists.{_&_, either, imp, all, any, only, keep, same, below, table, tableFrom}
+use Rattle.sets.specs.Lists.{_&_, either, imp, all, any, only, keep, same, below, table, tableFrom, fits, product}
 use Rattle.sets.specs.Bits.{has, mem, sites, join}
-use Rattle.sets.proofs.Lists.{and-true, and-false, and-yes, and-no, eqb-suc, iff, and-i, and-l, and-r, imp-e, any-at, any-i, length-union, or-case, or-l, or-r, eqb-eq, ltb-lt, lt-ltb}
+use Rattle.sets.proofs.Lists.{and-true, and-false, and-yes, and-no, eqb-suc, iff, and-i, and-l, and-r, imp-e, any-at, any-i, length-cat, or-case, or-l, or-r, eqb-eq, ltb-lt, lt-ltb}
 use borrow.Author.Tests.{eq-eqb, ne-eqb, le-ltb}
 use Rattle.sets.proofs.Shared.{mem-single, none-high}
 use Rattle.sets.proofs.Bits.{digit, has-or, has-none, has-half, same-bits}
 use Rattle.sets.proofs.Tables.{Filled, below-in, in-below, table-in, table-all}
 use Rattle.klaim.specs.Analysis.{choices}
 use Rattle.klaim.specs.Invariant.{allBelow, distinct}
-use Rattle.klaim.proofs.Choices.{fits, product}
 use Rattle.tables.specs.View.{rowAt, rowsView}
 use Rattle.tables.proofs.Lines.{getD-map}
 use Rattle.matching.specs.Index.{inColumn, inRows, inIndex, Indexed, Entered, Low}
@@ -400,22 +399,22 @@ module _ (f : ℕ → Bool) where
       let z : suc a + b ≡ suc (a + b) = omega arith in
       let e : suc i + a ≡ i + suc a = omega arith in
       ap (λ (n : ℕ). length (keep f (tableFrom n i (λ j. j)))) z
-      ∙ omega (arith, length-union (only (f i) i) (keep f (tableFrom (a + b) (suc i) (λ j. j))), length-union (only (f i) i) (keep f (tableFrom a (suc i) (λ j. j))), keep-split a b (suc i), ap (λ (k : ℕ). length (keep f (tableFrom b k (λ j. j)))) e)
+      ∙ omega (arith, length-cat (only (f i) i) (keep f (tableFrom (a + b) (suc i) (λ j. j))), length-cat (only (f i) i) (keep f (tableFrom a (suc i) (λ j. j))), keep-split a b (suc i), ap (λ (k : ℕ). length (keep f (tableFrom b k (λ j. j)))) e)
 
   keep-like : (g : ℕ → Bool) (k a i : ℕ) → ((b : ℕ) → b < i + k → f (a + b) ≡ g b) → length (keep f (tableFrom k (a + i) (λ j. j))) ≡ length (keep g (tableFrom k i (λ j. j)))
   unfolding tableFrom keep
   keep-like g zero a i h = refl
   keep-like g (suc k) a i h =
       let e : suc (a + i) ≡ a + suc i = omega arith in
-      length-union (only (f (a + i)) (a + i)) (keep f (tableFrom k (suc (a + i)) (λ j. j)))
+      length-cat (only (f (a + i)) (a + i)) (keep f (tableFrom k (suc (a + i)) (λ j. j)))
       ∙ ap₂ _+_ (only-long (f (a + i)) (a + i) ∙ ap (λ (b : Bool). cond b 1 0) (h i (omega arith)) ∙ sym (only-long (g i) i)) (ap (λ (n : ℕ). length (keep f (tableFrom k n (λ j. j)))) e ∙ keep-like g k a (suc i) (λ b l. h b (omega arith)))
-      ∙ sym (length-union (only (g i) i) (keep g (tableFrom k (suc i) (λ j. j))))
+      ∙ sym (length-cat (only (g i) i) (keep g (tableFrom k (suc i) (λ j. j))))
 
 ones-from : (x k i : ℕ) → x / 2 ^ i < 2 ^ k → length (keep (λ b. mem b x) (tableFrom k i (λ j. j))) ≡ ones (x / 2 ^ i)
 unfolding tableFrom keep has
 ones-from x zero i h = let e : x / 2 ^ i ≡ 0 = omega arith in sym (ap ones e ∙ ones-none)
 ones-from x (suc k) i h =
-    length-union (only (mem i x) i) (keep (λ b. mem b x) (tableFrom k (suc i) (λ j. j)))
+    length-cat (only (mem i x) i) (keep (λ b. mem b x) (tableFrom k (suc i) (λ j. j)))
     ∙ ap₂ _+_ (only-long (mem i x) i ∙ digit-is (x / 2 ^ i)) (ones-from x k (suc i) (subst (λ (y : ℕ). y < 2 ^ k) next less) ∙ ap ones (sym next))
     ∙ sym (ones-step (x / 2 ^ i))
   where
@@ -593,7 +592,7 @@ sites-ones m h = sym (ones-from m 32 0 (subst (λ (y : ℕ). y < 4294967296) (sy
 keep-short : {A : Type 0} (f : A → Bool) (xs : List A) → length (keep f xs) ≤ length xs
 unfolding keep
 keep-short f [] = omega arith
-keep-short f (x ∷ xs) = omega (arith, length-union (only (f x) x) (keep f xs), only-long (f x) x, few (f x), keep-short f xs)
+keep-short f (x ∷ xs) = omega (arith, length-cat (only (f x) x) (keep f xs), only-long (f x) x, few (f x), keep-short f xs)
   where
     few : (b : Bool) → cond b 1 0 ≤ 1
     few true = omega arith

@@ -10,7 +10,7 @@ use native.Mathlib.Decide.{decLe}
 use lib.Dec.{eqb}
 use lib.ListN.{length, getD, take, drop, length-take, length-drop, length-map, length-append, drop-of-length-le}
 use lib.Seq.{drop-cons, getD-take, getD-drop}
-use Rattle.sets.specs.Lists.{All, done, more, _&_, any, only, keep, among, tableFrom, table, same}
+use Rattle.sets.specs.Lists.{All, done, more, _&_, any, only, keep, among, tableFrom, table, same, fits, product}
 use Rattle.sets.specs.Bits.{mem, sites}
 use Rattle.sets.proofs.Lists.{iff, and-r, among-in, any-i, eq-eqb, eqb-eq, keep-snoc}
 use Rattle.sets.proofs.Counting.{Unlike}
@@ -18,7 +18,7 @@ use Rattle.sets.proofs.Tables.{table-snoc}
 use Rattle.sets.proofs.Bits.{sites-in, in-sites}
 use Rattle.klaim.specs.Invariant.{distinct}
 use Rattle.klaim.specs.Analysis.{choices}
-use Rattle.klaim.proofs.Choices.{fits, product, choices-count, sites-unlike}
+use Rattle.klaim.proofs.Choices.{choices-count, sites-unlike}
 use Rattle.tables.specs.View.{rowAt}
 use Rattle.tables.proofs.Lines.{getD-map}
 

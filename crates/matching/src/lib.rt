@@ -6,11 +6,10 @@ ghost use Prim.Native.Nat.{ℕ, _<_, _≤_, _+_, _*_, _^_, min};
 ghost use lib.Dec.{ltb};
 ghost use lib.Bits.{bitOr};
 ghost use lib.ListN.{length, getD, take, set, replicate};
-ghost use Rattle.sets.specs.Lists.{_&_, either, imp, all, any, keep, same, below};
+ghost use Rattle.sets.specs.Lists.{_&_, either, imp, all, any, keep, same, below, fits, product};
 ghost use Rattle.sets.specs.Bits.{mem, sites};
 ghost use Rattle.klaim.specs.Analysis.{choices as allChoices};
 ghost use Rattle.klaim.specs.Invariant.{allBelow, distinct};
-ghost use Rattle.klaim.proofs.Choices.{fits, product};
 ghost use Rattle.tables.specs.View.{rowAt, rowsView};
 ghost use Rattle.matching.specs.Index.{inColumn, words, inRows, inIndex, Indexed, Entered, Low, Long};
 
@@ -22,18 +21,12 @@ const ANY: u32 = 4294967295;
 
 const HALF: u32 = 16;
 
-pub fn wide(x: u8) -> usize
-    ensures { λ r. ⌜ r ≡ x ⌝ }
-{
-    x as usize
-}
-
 // How many sites row i of a table of tuples has.
 pub fn row_len(rows: &[u8; 1536], i: usize) -> usize
     requires { ⌜ (i < 256) × (length (now rows) ≡ 1536) ⌝ }
     ensures { λ r. ⌜ r ≡ length (rowAt (now (rows .entry)) i) ⌝ }
 {
-    let n = wide(rows[6 * i]);
+    let n = tables::wide(rows[6 * i]);
     if n < 5 { n } else { 5 }
 }
 
@@ -87,7 +80,7 @@ fn key(rows: &[u8; 1536], i: usize, c: usize) -> usize
     if c == 0 {
         return row_len(rows, i);
     }
-    wide(rows[6 * i + c]) % 32
+    tables::wide(rows[6 * i + c]) % 32
 }
 
 fn put(index: &mut [u64; 768], at: usize, bit: u64)

@@ -17,7 +17,7 @@ use Rattle.state.specs.View.{groundView, stateView}
 use Rattle.state.specs.Fits.{soundAt, Fits}
 use Rattle.state.specs.Lent.{Lent, Shown}
 use Rattle.state.proofs.Few.{sites-few, lines-few, arrivals-few, tuples-few}
-use Rattle.state.proofs.Lent.{with-rest, joined, joined-fits, of-joined}
+use Rattle.state.proofs.Lent.{with-rest, joined-fits, of-joined}
 use Rattle.plan.specs.Move.{Guests, Tables, Admits, Plannable}
 
 module _ {st : State} (f : Fits st) where

@@ -257,7 +257,7 @@ pub fn arrival_at(arrivals: &[u8; 256], n: usize, r: usize) -> usize
 {
     let mut i: usize = 0;
     while i < n {
-        if matching::wide(arrivals[i]) == r {
+        if tables::wide(arrivals[i]) == r {
             return i;
         }
         i += 1;

@@ -13,28 +13,28 @@ use lib.Dec.{ltb}
 use lib.ListN.{length, getD, getElem?, take}
 use lib.Seq.{length-take-le, getD-take}
 use Rattle.sets.specs.Lists.{Elem, first, later, _&_, either, any, keep, below, among, table}
-use Rattle.sets.proofs.Lists.{any-i, All-in, All-get, lt-ltb}
+use Rattle.sets.proofs.Lists.{any-i, All-get, lt-ltb}
 use Rattle.sets.proofs.Tables.{getD-table, length-table}
 use Rattle.klaim.specs.Process.{Line, lineAt, tree}
 use Rattle.klaim.specs.Analysis.{least}
 use Rattle.klaim.specs.Report.{door}
 use Rattle.klaim.specs.Reader.{refused, gives}
 use Rattle.klaim.specs.State as Spec
-use Rattle.klaim.specs.Invariant.{ThreadOk, Invariant}
+use Rattle.klaim.specs.Invariant.{Invariant}
 use Rattle.klaim.specs.Engine.{doorAlone, runnable, ready}
-use Rattle.tables.specs.View.{estimateView, fieldBytes, linesView, actionLine, rowAt, rowsView, Decoded, InForm}
+use Rattle.tables.specs.View.{fieldBytes, linesView, actionLine, rowAt, rowsView, Decoded, InForm}
 use Rattle.tables.specs.declared.Action.{Action}
-use Rattle.tables.proofs.Lines.{line-view, length-view}
+use Rattle.tables.proofs.Lines.{line-view}
 use Rattle.threads.specs.declared.Thread.{Thread}
 use Rattle.threads.specs.View.{noThread, threadView, threadsView}
 use Rattle.threads.proofs.Laws.{threads-long, thread-some}
 use Rattle.tuples.proofs.Rows.{rows-long}
 use Rattle.state.specs.declared.State.{State}
 use Rattle.state.specs.View.{groundView, stateView}
-use Rattle.state.specs.Fits.{soundAt, Fits}
+use Rattle.state.specs.Fits.{Fits}
 use Rattle.plan.specs.Move.{Guests, Tables, Plannable}
 use Rattle.plan.proofs.Fitted.{tables, plannable}
-use Rattle.ready.specs.declared.World.{World}
+use Rattle.ready.specs.declared.Context.{Context}
 use Rattle.ready.specs.Runs.{room, welcome, runs}
 use Rattle.ready.specs.Scan.{firstOf, placeOf, stepsIn, Serves, Testable, AllTestable, Found}
 use Rattle.ready.proofs.Runnable.{From, runnable-is, lowest-start, lowest-here, lowest-later, lowest-end}
@@ -152,7 +152,7 @@ module _ (f : ℕ → Bool) (n : ℕ) where
       first-one (g th) (firstOf g ts) j (omega arith) (ap f (sym (add-zero j)) ∙ h 0 (omega arith))
       (lowest-first g ts (suc j) (omega arith) (λ i l. let q : suc j + i ≡ j + suc i = omega arith in ap f q ∙ h (suc i) (omega arith)))
 
-module _ (st : Spec.State) (inv : Invariant st) (w : World) (s : Serves st w) (items : List Thread) (n : ℕ) (e : st .threads ≡ threadsView n items) (long : n ≤ length items) where
+module _ (st : Spec.State) (inv : Invariant st) (w : Context) (s : Serves st w) (items : List Thread) (n : ℕ) (e : st .threads ≡ threadsView n items) (long : n ≤ length items) where
   taken : length (take n items) ≡ n
   taken = length-take-le n items long
 
@@ -179,8 +179,8 @@ module _ (st : Spec.State) (inv : Invariant st) (w : World) (s : Serves st w) (i
       ∙ ap (λ (x : ℕ). placeOf x n) (zero-add (firstOf (stepsIn st) (take n items)) ∙ sym first))
 
 -- what ready reads of a state
-abbrev pub worldOf : State → World
-worldOf st = record {
+abbrev pub contextOf : State → Context
+contextOf st = record {
   lines = st .lines;
   nlines = st .nlines;
   boxes = st .net .boxes;
@@ -197,16 +197,16 @@ module _ {st : State} (f : Fits st) (long-threads : length (st .run .threads) �
   few : st .run .nthreads ≤ length (st .run .threads)
   few = omega (arith, long-threads, f .threads-few)
 
-  pub fits-testable : AllTestable (worldOf st) (take (st .run .nthreads) (st .run .threads))
+  pub fits-testable : AllTestable (contextOf st) (take (st .run .nthreads) (st .run .threads))
   fits-testable = record {
     each = λ k h.
         let l : k < st .run .nthreads = omega (arith, length-take-le (st .run .nthreads) (st .run .threads) few) in
-        subst (Testable (worldOf st)) (sym (getD-take (st .run .nthreads) (st .run .threads) k noThread l)) (record { plannable = plannable f long-threads k l; few = f .threads-few });
+        subst (Testable (contextOf st)) (sym (getD-take (st .run .nthreads) (st .run .threads) k noThread l)) (record { plannable = plannable f long-threads k l; few = f .threads-few });
   }
 
-  pub fits-ready : (k : ℕ) → Found (worldOf st) (take (st .run .nthreads) (st .run .threads)) k → placeOf k (st .run .nthreads) ≡ ready (stateView st)
+  pub fits-ready : (k : ℕ) → Found (contextOf st) (take (st .run .nthreads) (st .run .threads)) k → placeOf k (st .run .nthreads) ≡ ready (stateView st)
   unfolding stateView groundView
-  fits-ready = ready-is (stateView st) (f .invariant) (worldOf st) (record { tables = tables f; threads = threads-long (st .run .nthreads) (st .run .threads) few }) (st .run .threads) (st .run .nthreads) refl few
+  fits-ready = ready-is (stateView st) (f .invariant) (contextOf st) (record { tables = tables f; threads = threads-long (st .run .nthreads) (st .run .threads) few }) (st .run .threads) (st .run .nthreads) refl few
 
 -- the door called by itself, test by test
 module _ (st : Spec.State) (r l d : ℕ) {b : Bool} (e : b ≡ among (st .arrivals) r) where

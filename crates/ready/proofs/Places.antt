@@ -11,7 +11,7 @@ use lib.ListN.{length, getD, drop, drop-of-length-le}
 use Rattle.klaim.specs.State as Spec
 use Rattle.threads.specs.declared.Thread.{Thread}
 use Rattle.threads.specs.View.{noThread}
-use Rattle.ready.specs.declared.World.{World}
+use Rattle.ready.specs.declared.Context.{Context}
 use Rattle.ready.specs.Scan.{firstOf, stepsIn, Serves, Tested, Found}
 
 pub holds : (t : Bool) → Holds t → t ≡ true
@@ -49,11 +49,11 @@ unfolding firstOf
 none-left f = refl
 
 -- the place k lies within the list, and the answer is k places further than that of what is left
-pub record Known (w : World) (ts : List Thread) (k : ℕ) : Type 0 where
+pub record Known (w : Context) (ts : List Thread) (k : ℕ) : Type 0 where
   pub within : k ≤ length ts
   pub left : (st : Spec.State) → Serves st w → ((j : ℕ) → j < length ts → getD ts j noThread .site .0 < st .net .size) → firstOf (stepsIn st) ts ≡ k + firstOf (stepsIn st) (drop k ts)
 
-module _ (w : World) (ts : List Thread) where
+module _ (w : Context) (ts : List Thread) where
   pub at-first : Known w ts 0
   at-first = record { within = zero-le; left = λ st s h. sym (zero-add (firstOf (stepsIn st) ts)) }
 

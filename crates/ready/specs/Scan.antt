@@ -12,7 +12,7 @@ use Rattle.klaim.specs.State as Spec
 use Rattle.threads.specs.declared.Thread.{Thread}
 use Rattle.threads.specs.View.{noThread, threadView}
 use Rattle.plan.specs.Move.{Tables, Plannable}
-use Rattle.ready.specs.declared.World.{World}
+use Rattle.ready.specs.declared.Context.{Context}
 use Rattle.ready.specs.Runs.{runs}
 
 -- the lowest place of a thread that passes a test, or how many there are
@@ -29,22 +29,22 @@ unfoldable pub stepsIn : Spec.State → Thread → Bool
 stepsIn st th = runs st (threadView th) (lineAt (st .lines) (th .line))
 
 -- a state has these tables, and as many threads
-pub record Serves (st : Spec.State) (w : World) : Type 0 where
+pub record Serves (st : Spec.State) (w : Context) : Type 0 where
   pub tables : (l : ℕ) → l < st .net .size → Tables st l (w .lines) (w .nlines) (w .boxes) (w .binds) (w .arrivals) (w .narrivals) (w .sound) (w .tuples) (w .ntuples)
   pub threads : length (st .threads) ≡ w .nthreads
 
 -- what the test asks of a thread, and of each of a list
-pub record Testable (w : World) (th : Thread) : Type 0 where
+pub record Testable (w : Context) (th : Thread) : Type 0 where
   pub plannable : Plannable (w .lines) (w .nlines) (w .arrivals) (w .narrivals) (w .sound) (w .tuples) (w .ntuples) th
   pub few : w .nthreads ≤ 64
 
-pub record AllTestable (w : World) (ts : List Thread) : Type 0 where
+pub record AllTestable (w : Context) (ts : List Thread) : Type 0 where
   pub each : (k : ℕ) → k < length ts → Testable w (getD ts k noThread)
 
 -- b says whether thread th can make a bare step, in every state with these tables
-pub record Tested (w : World) (th : Thread) (b : Bool) : Type 0 where
+pub record Tested (w : Context) (th : Thread) (b : Bool) : Type 0 where
   pub test : (st : Spec.State) → Serves st w → th .site .0 < st .net .size → b ≡ stepsIn st th
 
 -- r is the lowest place of such a thread, or how many threads there are
-pub record Found (w : World) (ts : List Thread) (r : ℕ) : Type 0 where
+pub record Found (w : Context) (ts : List Thread) (r : ℕ) : Type 0 where
   pub found : (st : Spec.State) → Serves st w → ((k : ℕ) → k < length ts → getD ts k noThread .site .0 < st .net .size) → r ≡ firstOf (stepsIn st) ts

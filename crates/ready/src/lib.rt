@@ -207,7 +207,7 @@ fn can_step<'a>(
 }
 
 // What the test of a thread reads beside it: the tables, and how many threads there are.
-pub struct World {
+pub struct Context {
     pub lines: [u8; 2560],
     pub nlines: usize,
     pub boxes: [u8; 1056],
@@ -221,7 +221,7 @@ pub struct World {
 }
 
 // Whether thread th can make a bare step.
-fn able(th: Thread, w: World) -> bool
+fn able(th: Thread, w: Context) -> bool
     requires { ⌜ Testable w th ⌝ }
     ensures { λ r. ⌜ Tested w th r ⌝ }
 {
@@ -245,7 +245,7 @@ fn able(th: Thread, w: World) -> bool
 }
 
 // The lowest place of a thread that can make a bare step, or how many there are.
-fn first(ts: &[Thread], w: World) -> usize
+fn first(ts: &[Thread], w: Context) -> usize
     requires { ⌜ AllTestable w (now ts) ⌝ }
     ensures { λ r. ⌜ Found w (now (ts .entry)) r ⌝ }
 {
@@ -260,7 +260,7 @@ fn first(ts: &[Thread], w: World) -> usize
 }
 
 // That of the first n threads of an array.
-fn lowest(items: [Thread; 64], n: usize, w: World) -> usize
+fn lowest(items: [Thread; 64], n: usize, w: Context) -> usize
     requires { ⌜ (n ≤ 64) × AllTestable w (take n items) ⌝ }
     ensures { λ r. ⌜ Found w (take n items) r ⌝ }
 {
@@ -291,7 +291,7 @@ pub fn ready(state: State) -> ReadyAnswer
     let tuples = state.tuples;
     let items = state.run.threads;
     let n = state.run.nthreads;
-    let w = World {
+    let w = Context {
         lines,
         nlines: state.nlines,
         boxes,
@@ -329,7 +329,7 @@ pub fn door<'a>(
     if narrivals <= i {
         return DoorAnswer::Refused(24);
     }
-    if matching::wide(size) <= l {
+    if tables::wide(size) <= l {
         return DoorAnswer::Refused(4);
     }
     if tables::SANDBOXES <= d {

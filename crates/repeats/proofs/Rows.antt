@@ -8,7 +8,7 @@ use Prim.Native.Nat.{ℕ, _+_, _*_, _<_, _≤_}
 use lib.Dec.{ltb}
 use lib.ListN.{getD}
 use Rattle.sets.specs.Lists.{all, _⧺_}
-use Rattle.sets.proofs.Runs.{union-none}
+use Rattle.sets.proofs.Runs.{cat-none}
 use Rattle.klaim.specs.Rows.{Row, groupD, groupL, groupB}
 use Rattle.klaim.specs.Reader.{inLimits, key, nth, pairPlace, boxPlace, rootOf}
 use Rattle.text.specs.declared.Name.{Name}
@@ -56,7 +56,7 @@ pub record RootRow (s q : ℕ) (x : Row) : Type 0 where
 -- T and A rows
 tuple-as : (g z w : ℕ) (ss : List ℕ) → key (rowAs g z [] [] ss [] w) ≡ g ∷ ss
 unfolding key _⧺_
-tuple-as g z w ss = ap (λ (l : List ℕ). g ∷ l) (union-none ss)
+tuple-as g z w ss = ap (λ (l : List ℕ). g ∷ l) (cat-none ss)
 
 -- what the code's form of a row stands for
 module _ (r : RowData) (G : rowGood r ≡ true) (L : inLimits (rowData r) ≡ true) where
@@ -72,7 +72,7 @@ module _ (r : RowData) (G : rowGood r ≡ true) (L : inLimits (rowData r) ≡ tr
   box-row p =
       let P = Shapes.box-row r G L p in
       subst (λ (x : Row). BoxRow (r .line .sandbox) (r .line .target) x) (sym (P .row-is))
-      (record { keyed = ap (λ (l : List ℕ). r .group ∷ r .line .sandbox ∷ l) (union-none (sitesTo (r .line .target))); placed = refl; some = P .some; k-low = P .box-low; t-low = rw (P .row-is) at (Shapes.within (rowData r) L .sites-low); t-most = toward-low P })
+      (record { keyed = ap (λ (l : List ℕ). r .group ∷ r .line .sandbox ∷ l) (cat-none (sitesTo (r .line .target))); placed = refl; some = P .some; k-low = P .box-low; t-low = rw (P .row-is) at (Shapes.within (rowData r) L .sites-low); t-most = toward-low P })
 
   pub bound-row : r .group ≡ groupB → BoundRow (r .variable) (r .line .target .number) (rowData r)
   unfolding key _⧺_

@@ -5,7 +5,7 @@ use Prim.Native.Nat.{ℕ, _<_}
 use native.Mathlib.Omega.{arith}
 use Rattle.sets.proofs.Lists.{All-in}
 use Rattle.sets.proofs.Tables.{length-table, table-in}
-use Rattle.klaim.proofs.Reader.{RootOk, NetOk}
+use Rattle.klaim.specs.WellFormed.{RootOk, NetOk}
 use Rattle.tables.specs.declared.Net.{Net}
 use Rattle.tables.specs.declared.Estimate.{Estimate}
 use Rattle.tables.specs.View.{rootAt, rootsView, netView, estimateView}

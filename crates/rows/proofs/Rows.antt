@@ -7,7 +7,7 @@ use Prim.Native.Char.{code}
 use Prim.Native.String.{String}
 use native.Mathlib.Omega.{arith}
 use lib.ListN.{length}
-use Rattle.sets.proofs.Lists.{length-union}
+use Rattle.sets.proofs.Lists.{length-cat}
 use Rattle.klaim.specs.Rows.{text}
 use Rattle.klaim.specs.Reader.{refused, World}
 use Rattle.klaim.specs.Analysis.{brokenT, brokenQ}
@@ -23,11 +23,11 @@ width (f ∷ fs) = 1 + length f + width fs
 length-tail : (fs : List (List ℕ)) → length (tail fs) ≡ width fs
 unfolding tail
 length-tail [] = refl
-length-tail (f ∷ fs) = omega (arith, length-union f (tail fs), length-tail fs)
+length-tail (f ∷ fs) = omega (arith, length-cat f (tail fs), length-tail fs)
 
 pub length-row : (w : String) (fs : List (List ℕ)) → length (row w fs) ≡ length (text w) + width fs
 unfolding row
-length-row w fs = length-union (text w) (tail fs) ∙ ap (λ (n : ℕ). length (text w) + n) (length-tail fs)
+length-row w fs = length-cat (text w) (tail fs) ∙ ap (λ (n : ℕ). length (text w) + n) (length-tail fs)
 
 -- the longest of each row
 pub accepted-short : (n : ℕ) → n < 10000 → length (row "accepted" (numeral n ∷ [])) ≤ 14

@@ -7,7 +7,7 @@ use Prim.Native.Nat.{ℕ, suc, _+_, _<_}
 use native.Mathlib.Omega.{arith}
 use lib.ListN.{length, getD, take, set}
 use lib.Seq.{take-suc, take-suc-set}
-use Rattle.sets.specs.Lists.{_&_, imp, all, any, tableFrom, table, below, same, among}
+use Rattle.sets.specs.Lists.{_&_, imp, all, any, tableFrom, table, below, same, among, fits}
 use Rattle.sets.specs.Bits.{has, mem, sites}
 use Rattle.sets.proofs.Lists.{and-yes, and-l, and-r, all-at, all-same, ltb-lt, map-append}
 use Rattle.sets.proofs.Tables.{below-in}
@@ -18,7 +18,6 @@ use Rattle.klaim.specs.declared.Slot.the-variants.{Value, Bind}
 use Rattle.klaim.specs.Net.{Estimate, may}
 use Rattle.klaim.specs.Analysis.{reach, reached, slotMatch, matches, choices, stands, bound, outRule, getRule}
 use Rattle.klaim.specs.Invariant.{allBelow}
-use Rattle.klaim.proofs.Choices.{fits}
 use Rattle.tables.specs.View.{locOf, slotOf, LowSlot}
 use Rattle.matching.specs.Index.{Low}
 use Rattle.matching.proofs.Laws.{among-low}

@@ -3,6 +3,7 @@ ghost use mathlib.Core.Path.{_≡_};
 ghost use Prim.Native.Nat.{_<_, _≤_};
 ghost use lib.ListN.{length};
 ghost use Rattle.state.specs.Fits.{Fits};
+ghost use Rattle.step.specs.Stepped.{Stepped};
 use commands::Command;
 use ready::DoorAnswer;
 use ready::ReadyAnswer;
@@ -59,7 +60,7 @@ fn say_bad() {
 // A step, guarded or bare, and its row.
 fn act(state: State, guarded: bool, c: Command) -> State
     requires { ⌜ Fits state ⌝ }
-    ensures { λ next. ⌜ Fits next ⌝ }
+    ensures { λ next. ⌜ Stepped guarded state (c .a) (c .b) (c .c) next ⌝ }
 {
     let nlines = state.nlines;
     let narrivals = state.narrivals;

@@ -7,7 +7,7 @@ use Prim.Native.Nat.{suc, _≤_}
 use native.Mathlib.Omega.{arith}
 use lib.ListN.{length}
 use Rattle.sets.specs.Lists.{Elem, first, later, concat, _⧺_}
-use Rattle.sets.proofs.Lists.{in-none, union-case, map-out}
+use Rattle.sets.proofs.Lists.{in-none, cat-case, map-out}
 
 -- no element stands twice
 pub data Unlike {A : Type 0} : List A → Type 0 where
@@ -59,10 +59,10 @@ module _ {A : Type 0} where
       put z (first e) = subst (λ (w : A). Elem w ys) (sym e) i
       put z (later j) = h z j
 
-  pub unlike-union : {xs ys : List A} → Unlike xs → Unlike ys → ((x : A) → Elem x xs → Elem x ys → ⊥) → Unlike (xs ⧺ ys)
+  pub unlike-cat : {xs ys : List A} → Unlike xs → Unlike ys → ((x : A) → Elem x xs → Elem x ys → ⊥) → Unlike (xs ⧺ ys)
   unfolding _⧺_
-  unlike-union none v h = v
-  unlike-union {ys = ys} (more {x = x} {xs = xs} new u) v h = more (λ i. go (union-case xs ys i)) (unlike-union u v (λ y i j. h y (later i) j))
+  unlike-cat none v h = v
+  unlike-cat {ys = ys} (more {x = x} {xs = xs} new u) v h = more (λ i. go (cat-case xs ys i)) (unlike-cat u v (λ y i j. h y (later i) j))
     where
       go : Elem x xs ⊎ Elem x ys → ⊥
       go (inl i) = new i
@@ -76,7 +76,7 @@ module _ {A B : Type 0} where
   pub concat-out : (f : A → List B) (xs : List A) {y : B} → Elem y (concat f xs) → (x : A) × Elem x xs × Elem y (f x)
   unfolding concat
   concat-out f [] i = absurd (in-none i)
-  concat-out f (x ∷ xs) {y} i = go (concat-out f xs) (union-case (f x) (concat f xs) i)
+  concat-out f (x ∷ xs) {y} i = go (concat-out f xs) (cat-case (f x) (concat f xs) i)
     where
       go : (Elem y (concat f xs) → (x : A) × Elem x xs × Elem y (f x)) → Elem y (f x) ⊎ Elem y (concat f xs) → (z : A) × Elem z (x ∷ xs) × Elem y (f z)
       go ih (inl j) = (x, first refl, j)
@@ -86,5 +86,5 @@ module _ {A B : Type 0} where
   unfolding concat
   unlike-concat f u apart none = none
   unlike-concat f u apart (more {x = x} {xs = xs} new v) =
-      unlike-union (u x) (unlike-concat f u apart v)
+      unlike-cat (u x) (unlike-concat f u apart v)
       (λ z i j. let r = concat-out f xs j in new (subst (λ (w : A). Elem w xs) (sym (apart x (r .0) z i (r .2))) (r .1)))

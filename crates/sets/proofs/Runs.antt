@@ -14,15 +14,15 @@ use Rattle.sets.proofs.Lists.{keep-snoc}
 use Rattle.sets.proofs.Tables.{table-snoc}
 
 module _ {A : Type 0} where
-  pub union-none : (xs : List A) → xs ⧺ [] ≡ xs
+  pub cat-none : (xs : List A) → xs ⧺ [] ≡ xs
   unfolding _⧺_
-  union-none [] = refl
-  union-none (x ∷ xs) = ap (λ (l : List A). x ∷ l) (union-none xs)
+  cat-none [] = refl
+  cat-none (x ∷ xs) = ap (λ (l : List A). x ∷ l) (cat-none xs)
 
-  pub union-assoc : (xs ys zs : List A) → (xs ⧺ ys) ⧺ zs ≡ xs ⧺ (ys ⧺ zs)
+  pub cat-assoc : (xs ys zs : List A) → (xs ⧺ ys) ⧺ zs ≡ xs ⧺ (ys ⧺ zs)
   unfolding _⧺_
-  union-assoc [] ys zs = refl
-  union-assoc (x ∷ xs) ys zs = ap (λ (l : List A). x ∷ l) (union-assoc xs ys zs)
+  cat-assoc [] ys zs = refl
+  cat-assoc (x ∷ xs) ys zs = ap (λ (l : List A). x ∷ l) (cat-assoc xs ys zs)
 
   pub sum-append : (f : A → ℕ) (xs ys : List A) → sum f (xs ++ ys) ≡ sum f xs + sum f ys
   unfolding sum
@@ -47,11 +47,11 @@ module _ {A B : Type 0} where
   pub concat-append : (f : A → List B) (xs ys : List A) → concat f (xs ++ ys) ≡ concat f xs ⧺ concat f ys
   unfolding concat _⧺_
   concat-append f [] ys = refl
-  concat-append f (x ∷ xs) ys = ap (λ (l : List B). f x ⧺ l) (concat-append f xs ys) ∙ sym (union-assoc (f x) (concat f xs) (concat f ys))
+  concat-append f (x ∷ xs) ys = ap (λ (l : List B). f x ⧺ l) (concat-append f xs ys) ∙ sym (cat-assoc (f x) (concat f xs) (concat f ys))
 
   pub concat-one : (f : A → List B) (x : A) → concat f (x ∷ []) ≡ f x
   unfolding concat
-  concat-one f x = union-none (f x)
+  concat-one f x = cat-none (f x)
 
 module _ {B : Type 0} (f : ℕ → List B) where
   pub concat-below : (n : ℕ) → concat f (below (n + 1)) ≡ concat f (below n) ⧺ f n

@@ -3,7 +3,7 @@
 use mathlib.Core.Path.{_≡_}
 use mathlib.Core.Bool.{Bool, true, false}
 use mathlib.Core.List.{List, [], _∷_, _++_}
-use Prim.Native.Nat.{ℕ, zero, suc, _+_}
+use Prim.Native.Nat.{ℕ, zero, suc, _+_, _*_}
 use lib.Dec.{eqb}
 use lib.ListN.{length}
 
@@ -102,3 +102,15 @@ among xs x = any (eqb x) xs
 -- how often x stands in the list
 unfoldable pub count : ℕ → List ℕ → ℕ
 count x xs = length (keep (eqb x) xs)
+
+-- a row has as many fields as there are sets, each within its set
+unfoldable pub fits : List (List ℕ) → List ℕ → Bool
+fits [] [] = true
+fits [] (v ∷ vs) = false
+fits (xs ∷ xss) [] = false
+fits (xs ∷ xss) (v ∷ vs) = among xs v & fits xss vs
+
+-- how many rows can be chosen, each field from its set
+unfoldable pub product : List (List ℕ) → ℕ
+product [] = 1
+product (xs ∷ xss) = length xs * product xss

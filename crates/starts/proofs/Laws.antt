@@ -9,7 +9,7 @@ use native.Mathlib.Numerals.{add-one}
 use borrow.Author.Tests.{eq-eqb, ne-eqb}
 use lib.ListN.{length}
 use Rattle.sets.specs.Lists.{concat, table, tableFrom}
-use Rattle.sets.proofs.Lists.{All-in, union-append}
+use Rattle.sets.proofs.Lists.{All-in, cat-append}
 use Rattle.sets.proofs.Tables.{length-table, table-in, table-snoc}
 use Rattle.sets.proofs.Runs.{concat-append, concat-one}
 use Rattle.klaim.specs.declared.Site.{Site}
@@ -18,7 +18,8 @@ use Rattle.klaim.specs.Net.{Net}
 use Rattle.klaim.specs.Reader.{Answer, refused, gives, andThen, World, readBoth}
 use Rattle.klaim.specs.State as Spec
 use Rattle.klaim.specs.State.{isNil, settle, homePolicy, rootThread, begin, start}
-use Rattle.klaim.proofs.Reader.{NetOk, RootOk, both-read}
+use Rattle.klaim.specs.WellFormed.{RootOk, NetOk}
+use Rattle.klaim.proofs.Reader.{both-read}
 use Rattle.klaim.proofs.Invariant.{start-gives}
 use Rattle.tables.specs.declared.Net as Tables
 use Rattle.tables.specs.declared.Estimate.{Estimate}
@@ -30,7 +31,7 @@ use Rattle.worlds.specs.World.{worldView, worldAnswer}
 use Rattle.state.specs.declared.State.{State}
 use Rattle.state.specs.View.{groundView, stateView}
 use Rattle.starts.specs.declared.Threads.{Threads}
-use Rattle.starts.specs.Started.{startView, Started, Fresh, RootsIn, groundOf, begunOf}
+use Rattle.starts.specs.Started.{startView, Started, Fresh, RootsPlaced, groundOf, begunOf}
 
 -- the thread of a root
 pub root-view : (N : Net) (s q : ℕ) (ss : List Site) {p : List ℕ} → p ≡ homePolicy N s → record { site = s; policy = p; line = q; bindings = bindingsView 0 ss } ≡ rootThread N (record { site = s; line = q })
@@ -49,7 +50,7 @@ module _ (ls : List Line) (th : Spec.Thread) (old : List Spec.Thread) {t : Bool}
 
 -- the union over a list with one element more
 concat-snoc : {A B : Type 0} (f : A → List B) (xs : List A) (x : A) → concat f (xs ++ (x ∷ [])) ≡ concat f xs ++ f x
-concat-snoc f xs x = rw (concat-append, concat-one, union-append)
+concat-snoc f xs x = rw (concat-append, concat-one, cat-append)
 
 -- the threads of the first roots
 module _ (N : Net) (bs : List ℕ) where
@@ -100,7 +101,7 @@ module _ (w : WorldRead) (net estimate : List ℕ) (e : worldAnswer w ≡ readBo
   unfolding worldView
   net-ok z = both-read net estimate (worldView w) (world-read z) .0
 
-  pub roots-in : w .number ≡ 0 → RootsIn (w .net .roots) (w .net .nroots)
+  pub roots-in : w .number ≡ 0 → RootsPlaced (w .net .roots) (w .net .nroots)
   unfolding netView rootsView rootAt
   roots-in z =
       let ok = net-ok z in

@@ -36,7 +36,7 @@ pub record Fresh (st : State) : Type 0 where
   pub none-brought : st .narrivals ≡ 0
 
 -- each of n roots stands at one of 32 sites
-pub record RootsIn (roots : List ℕ) (n : ℕ) : Type 0 where
+pub record RootsPlaced (roots : List ℕ) (n : ℕ) : Type 0 where
   pub few : n ≤ 64
   pub placed : (i : ℕ) → i < n → getD roots (2 * i) 0 < 32
 

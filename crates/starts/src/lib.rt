@@ -10,7 +10,7 @@ ghost use Rattle.klaim.specs.State.{settle, rootThread, begin as beginOf};
 ghost use Rattle.tables.specs.View.{linesView, rootsView};
 ghost use Rattle.threads.specs.View.{threadView, threadsView};
 ghost use Rattle.worlds.specs.World.{worldAnswer};
-ghost use Rattle.starts.specs.Started.{Started, Fresh, RootsIn, startView, groundOf, begunOf};
+ghost use Rattle.starts.specs.Started.{Started, Fresh, RootsPlaced, startView, groundOf, begunOf};
 use klaim::Site;
 use state::Ground;
 use state::Run;
@@ -160,7 +160,7 @@ fn begun(net: Net, estimate: Estimate, list: Threads, number: u8, row: usize) ->
 
 // The state that begins from what was read, or the refusal.
 fn begin(w: WorldRead) -> State
-    requires { ⌜ (w .number ≡ 0 → RootsIn (w .net .roots) (w .net .nroots)) ⌝ }
+    requires { ⌜ (w .number ≡ 0 → RootsPlaced (w .net .roots) (w .net .nroots)) ⌝ }
     ensures { λ st. ⌜ startView st ≡ andThen (worldAnswer w) (λ x. gives (beginOf x)) ⌝ }
     ensures { λ st. ⌜ Fresh st ⌝ }
 {

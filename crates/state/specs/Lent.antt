@@ -3,7 +3,8 @@
 -- Assumes nothing.
 use mathlib.Core.Path.{_≡_}
 use mathlib.Core.List.{List}
-use Prim.Native.Nat.{ℕ}
+use Prim.Native.Nat.{ℕ, _*_, _≤_}
+use lib.ListN.{getD}
 use Rattle.state.specs.declared.Run.{Run}
 use Rattle.state.specs.declared.State.{State}
 use Rattle.state.specs.Fits.{Fits}
@@ -37,6 +38,10 @@ pub record Handed (homes boxes binds lines : List ℕ) (nlines : ℕ) (arrivals 
   pub state : State
   pub parts : Parts state homes boxes binds lines nlines arrivals narrivals sound tuples run
   pub fits : Fits state
+
+-- a table of n tuples that are now k is as it was behind them
+abbrev pub KeptBehind : ℕ → ℕ → List ℕ → List ℕ → Type 0
+KeptBehind n k old new = (j : ℕ) → 6 * n ≤ j → 6 * k ≤ j → getD new j 0 ≡ getD old j 0
 
 -- the state that has gone on: all that no step changes, other tuples, and another run
 abbrev pub goneOn : State → List ℕ → Run → State

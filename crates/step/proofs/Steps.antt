@@ -10,20 +10,18 @@ use borrow.Author.Tests.{ne-eqb}
 use lib.Dec.{eqb, leb}
 use lib.ListN.{length, getD, set, getElem?}
 use Rattle.sets.specs.Lists.{_&_, either, splice}
-use Rattle.sets.proofs.Lists.{All-in, All-get, and-l, and-r, leb-le}
+use Rattle.sets.proofs.Lists.{and-l, and-r, leb-le}
 use Rattle.klaim.specs.Process.{lineAt}
 use Rattle.klaim.specs.Reader.{Answer, gives}
 use Rattle.klaim.specs.Engine.{Event, silent, performed, Result, Plan, stop, quiet, act, plan, permits, limit, finish, stepOf, step}
-use Rattle.klaim.specs.Invariant.{ThreadOk, Invariant}
+use Rattle.klaim.specs.Invariant.{Invariant}
 use Rattle.klaim.specs.State as Spec
 use Rattle.klaim.specs.Engine as Engine
 use Rattle.klaim.proofs.Invariant.{step-keeps}
-use Rattle.tables.specs.View.{estimateView, linesView, rowsView}
-use Rattle.tables.proofs.Lines.{length-view}
+use Rattle.tables.specs.View.{linesView, rowsView}
 use Rattle.threads.specs.declared.Thread.{Thread}
 use Rattle.threads.specs.View.{noThread, threadView, threadsView}
-use Rattle.threads.proofs.Laws.{thread-some, thread-none, push-view}
-use Rattle.tuples.proofs.Rows.{rows-long}
+use Rattle.threads.proofs.Laws.{thread-none, push-view}
 use Rattle.state.specs.declared.Told.{Told}
 use Rattle.state.specs.declared.State.{State}
 use Rattle.state.specs.View.{groundView, stateView, answerView, resultView}

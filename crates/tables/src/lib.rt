@@ -204,6 +204,13 @@ pub fn field_at(lines: &[u8; 2560], q: u8, j: u8) -> u8
     lines[at + (j as usize)]
 }
 
+// A byte as an index.
+pub fn wide(x: u8) -> usize
+    ensures { λ r. ⌜ r ≡ x ⌝ }
+{
+    x as usize
+}
+
 // Whether line q of the n lines is `nil`, or is none of them.
 pub fn is_nil(lines: &[u8; 2560], n: usize, q: u8) -> bool
     ensures { λ r. ⌜ r ≡ isNil (lineAt (linesView n (now (lines .entry))) q) ⌝ }

@@ -1,9 +1,9 @@
 //! Tuples in their table, and a line's template held against one for a thread.
 ghost use mathlib.Core.Path.{_≡_};
 ghost use mathlib.Core.List.{_∷_, [], map};
-ghost use Prim.Native.Nat.{suc, _+_, _-_, _<_, _≤_};
+ghost use Prim.Native.Nat.{ℕ, suc, _+_, _-_, _*_, _<_, _≤_};
 ghost use lib.Dec.{eqb};
-ghost use lib.ListN.{length, take};
+ghost use lib.ListN.{length, getD, take};
 ghost use Rattle.sets.specs.Lists.{splice};
 ghost use Rattle.klaim.specs.Analysis.{slotMatch};
 ghost use Rattle.klaim.specs.Engine.{value, bindAll, agrees as agreesOf};
@@ -112,6 +112,7 @@ pub fn out_row(lines: &[u8; 2560], q: u8, count: u8, target: Loc, th: Thread) ->
 pub fn remove_row(rows: &mut [u8; 1536], n: usize, m: usize)
     requires { ⌜ (m < n) × (n ≤ 256) × (length (now rows) ≡ 1536) ⌝ }
     ensures { λ r. ⌜ (rowsView (n - 1) (now (rows .exit)) ≡ splice m [] (rowsView n (now (rows .entry)))) × (length (now (rows .exit)) ≡ 1536) ⌝ }
+    ensures { λ r. ⌜ ((j : ℕ) → 6 * (n - 1) ≤ j → getD (now (rows .exit)) j 0 ≡ getD (now (rows .entry)) j 0) ⌝ }
 {
     let end = tables::TUPLE * (n - 1);
     let mut i = tables::TUPLE * m;

@@ -9,7 +9,7 @@ use native.Mathlib.Omega.{arith}
 use borrow.Author.Tests.{eq-eqb, ne-eqb}
 use lib.ListN.{length, getD, drop, drop-of-length-le}
 use Rattle.sets.specs.Lists.{All, done, any, same, table, concat}
-use Rattle.sets.proofs.Lists.{All-union, All-turn}
+use Rattle.sets.proofs.Lists.{All-cat, All-turn}
 use Rattle.sets.proofs.Tables.{getD-table, length-table, table-drop}
 use Rattle.klaim.specs.Process.{Line, tree}
 use Rattle.klaim.specs.Net.{Root, Net, Estimate}
@@ -83,7 +83,7 @@ module _ (i n q : ℕ) where
 roots-low : (N : Net) (E : Estimate) (rs : List Root) → length (N .lines) ≤ 256 → All (λ x. x < 256) (concat (λ r. broken N E (placeSet (r .site)) (process N r)) rs)
 unfolding concat
 roots-low N E [] h = done
-roots-low N E (r ∷ rs) h = All-union (All-turn (λ x l. omega arith) (broken-low N E (placeSet (r .site)) (N .lines) (r .line))) (roots-low N E rs h)
+roots-low N E (r ∷ rs) h = All-cat (All-turn (λ x l. omega arith) (broken-low N E (placeSet (r .site)) (N .lines) (r .line))) (roots-low N E rs h)
 
 -- a tuple has a row
 pub row-stands : {E : Estimate} {index : List ℕ} (w : IndexOf E index) (t : List ℕ) {b : Bool} → b ≡ any (same t) (rowsView (w .count) (w .bytes)) → b ≡ stands E t

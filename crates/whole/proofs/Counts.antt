@@ -10,9 +10,9 @@ use lib.ListN.{getD, set, length-set, replicate, getD-replicate}
 use lib.Seq.{getD-set-same, getD-set-other}
 use borrow.Author.Tests.{ne-eqb}
 use Rattle.sets.specs.Lists.{all, keep, concat, table, tableFrom, below, count, _⧺_}
-use Rattle.sets.proofs.Lists.{eq-eqb, union-append, map-append, count-union, count-one, all-same}
+use Rattle.sets.proofs.Lists.{eq-eqb, cat-append, map-append, count-cat, count-one, all-same}
 use Rattle.sets.proofs.Tables.{in-below, table-snoc}
-use Rattle.sets.proofs.Runs.{union-none, union-assoc, concat-append, concat-one}
+use Rattle.sets.proofs.Runs.{cat-none, cat-assoc, concat-append, concat-one}
 use Rattle.klaim.specs.Process.{children}
 use Rattle.klaim.specs.Net.{Root}
 use Rattle.klaim.specs.Reader.{namedOnce}
@@ -37,10 +37,10 @@ named-more {xs} {cs} q {v} h e C = record {
 }
   where
     here : count q (xs ⧺ (q ∷ [])) ≡ count q xs + 1
-    here = omega (arith, count-union q xs (q ∷ []), count-same q)
+    here = omega (arith, count-cat q xs (q ∷ []), count-same q)
 
     other : (k : ℕ) → (k ≡ q → ⊥) → count k (xs ⧺ (q ∷ [])) ≡ count k xs
-    other k p = omega (arith, count-union k xs (q ∷ []), count-other k q p)
+    other k p = omega (arith, count-cat k xs (q ∷ []), count-other k q p)
 
     at : (k : ℕ) → k < 256 → Dec (k ≡ q) → getD (set cs q v) k 0 ≡ min (count k (xs ⧺ (q ∷ []))) 2
     at k l (yes p) = rw p (getD-set-same cs q v 0 (omega (arith, C .long)) ∙ e ∙ omega (arith, C .times q h, here))
@@ -59,7 +59,7 @@ pair a b = refl
 module _ {cs : Children} (xs : List ℕ) {counts : List ℕ} where
   pub children-none : cs ≡ Zero → Counted xs counts → Counted (xs ⧺ listOf cs) counts
   unfolding listOf
-  children-none e C = rw (e, union-none xs) C
+  children-none e C = rw (e, cat-none xs) C
 
   pub children-one : {a : ℕ} → cs ≡ One a → Counted (xs ⧺ (a ∷ [])) counts → Counted (xs ⧺ listOf cs) counts
   unfolding listOf
@@ -67,7 +67,7 @@ module _ {cs : Children} (xs : List ℕ) {counts : List ℕ} where
 
   pub children-two : {a b : ℕ} → cs ≡ Two a b → Counted ((xs ⧺ (a ∷ [])) ⧺ (b ∷ [])) counts → Counted (xs ⧺ listOf cs) counts
   unfolding listOf
-  children-two {a} {b} e C = rw e (subst (λ (l : List ℕ). Counted l counts) (union-assoc xs (a ∷ []) (b ∷ []) ∙ ap (λ (l : List ℕ). xs ⧺ l) (pair a b)) C)
+  children-two {a} {b} e C = rw e (subst (λ (l : List ℕ). Counted l counts) (cat-assoc xs (a ∷ []) (b ∷ []) ∙ ap (λ (l : List ℕ). xs ⧺ l) (pair a b)) C)
 
 -- a loop over lines, and over roots
 pub lines-more : (xs : List ℕ) {r : List ℕ} (bs : List ℕ) (q k : ℕ) (cs : List ℕ) → suc q ≡ k → cs ≡ children (lineOf bs q) → Counted ((xs ⧺ concat children (table q (lineOf bs))) ⧺ cs) r → Counted (xs ⧺ concat children (table k (lineOf bs))) r
@@ -75,7 +75,7 @@ lines-more xs {r} bs q k cs e h C = subst (λ (l : List ℕ). Counted l r) same 
   where
     same : (xs ⧺ concat children (table q (lineOf bs))) ⧺ cs ≡ xs ⧺ concat children (table k (lineOf bs))
     same =
-        union-assoc xs (concat children (table q (lineOf bs))) cs
+        cat-assoc xs (concat children (table q (lineOf bs))) cs
         ∙ ap (λ (l : List ℕ). xs ⧺ l)
         (ap (λ (l : List ℕ). concat children (table q (lineOf bs)) ⧺ l) (h ∙ sym (concat-one children (lineOf bs q)))
         ∙ sym (concat-append children (table q (lineOf bs)) (lineOf bs q ∷ []))
@@ -83,7 +83,7 @@ lines-more xs {r} bs q k cs e h C = subst (λ (l : List ℕ). Counted l r) same 
 
 pub lines-none : (xs : List ℕ) {r : List ℕ} (bs : List ℕ) → Counted xs r → Counted (xs ⧺ concat children (table 0 (lineOf bs))) r
 unfolding concat table tableFrom
-lines-none xs bs C = rw (union-none xs) C
+lines-none xs bs C = rw (cat-none xs) C
 
 abbrev pub rootLines : ℕ → List ℕ → List ℕ
 rootLines m rs = map (λ (x : Root). x .line) (table m (rootAt rs))
@@ -98,7 +98,7 @@ roots-more {r} rs i k e C = subst (λ (l : List ℕ). Counted l r) same C
   where
     same : rootLines i rs ⧺ (getD rs (2 * i + 1) 0 ∷ []) ≡ rootLines k rs
     same =
-        union-append (rootLines i rs) (getD rs (2 * i + 1) 0 ∷ [])
+        cat-append (rootLines i rs) (getD rs (2 * i + 1) 0 ∷ [])
         ∙ sym (map-append (λ (x : Root). x .line) (table i (rootAt rs)) (rootAt rs i ∷ []))
         ∙ ap (map (λ (x : Root). x .line)) (sym (table-snoc i (rootAt rs)) ∙ ap (λ (n : ℕ). table n (rootAt rs)) e)
 

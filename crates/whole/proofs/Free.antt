@@ -44,10 +44,10 @@ mask-none : maskOf [] ≡ 0
 unfolding maskOf joins
 mask-none = refl
 
-mask-union : (xs ys : List ℕ) → maskOf (xs ⧺ ys) ≡ join (maskOf xs) (maskOf ys)
+mask-cat : (xs ys : List ℕ) → maskOf (xs ⧺ ys) ≡ join (maskOf xs) (maskOf ys)
 unfolding maskOf joins _⧺_
-mask-union [] ys = sym (join-none (maskOf ys))
-mask-union (x ∷ xs) ys = ap (join (2 ^ x)) (mask-union xs ys) ∙ sym (join-assoc (2 ^ x) (maskOf xs) (maskOf ys))
+mask-cat [] ys = sym (join-none (maskOf ys))
+mask-cat (x ∷ xs) ys = ap (join (2 ^ x)) (mask-cat xs ys) ∙ sym (join-assoc (2 ^ x) (maskOf xs) (maskOf ys))
 
 -- an element is kept if it is not in us
 among-without : (us xs : List ℕ) (n : ℕ) → among (without us xs) n ≡ (among xs n & not (among us n))
@@ -66,7 +66,7 @@ mask-without us xs =
 mask-fields : {A : Type 0} (f : A → List ℕ) (g : ℕ → A) (k : ℕ) → ((c : ℕ) → maskOf (f (g c)) ≡ varIn k c) → (cs : List ℕ) → maskOf (concat f (map g cs)) ≡ joins (varIn k) cs
 unfolding concat joins
 mask-fields f g k h [] = mask-none
-mask-fields f g k h (c ∷ cs) = mask-union (f (g c)) (concat f (map g cs)) ∙ ap₂ join (h c) (mask-fields f g k h cs)
+mask-fields f g k h (c ∷ cs) = mask-cat (f (g c)) (concat f (map g cs)) ∙ ap₂ join (h c) (mask-fields f g k h cs)
 
 -- the variable of a byte by its sort
 pub mask-one : (u : ℕ) → maskOf (u ∷ []) ≡ 2 ^ u
@@ -159,15 +159,15 @@ freeBy f cs (Forks a b g) = freeForks g (maskOf (free (f a))) (maskOf (free (f b
 get-free : (q r : ℕ) (g : Loc) (cs : List ℕ) (a : Tree) → join (join (maskOf (usedIn (Value g))) (joins (varIn 2) cs)) (less (maskOf (free a)) (joins (varIn 3) cs)) ≡ maskOf (free (getT q r g (map slotOf cs) a))
 unfolding free concat
 get-free q r g cs a =
-    sym (mask-union (concat usedIn (Value g ∷ map slotOf cs)) (without (concat boundIn (map slotOf cs)) (free a))
-    ∙ ap₂ join (mask-union (usedIn (Value g)) (concat usedIn (map slotOf cs)) ∙ ap (join (maskOf (usedIn (Value g)))) (mask-fields usedIn slotOf 2 used-slot cs))
+    sym (mask-cat (concat usedIn (Value g ∷ map slotOf cs)) (without (concat boundIn (map slotOf cs)) (free a))
+    ∙ ap₂ join (mask-cat (usedIn (Value g)) (concat usedIn (map slotOf cs)) ∙ ap (join (maskOf (usedIn (Value g)))) (mask-fields usedIn slotOf 2 used-slot cs))
     (mask-without (concat boundIn (map slotOf cs)) (free a) ∙ ap (less (maskOf (free a))) (mask-fields boundIn slotOf 3 bound-slot cs)))
 
 out-free : (q : ℕ) (g : Loc) (cs : List ℕ) (a : Tree) → join (join (maskOf (usedIn (Value g))) (joins (varIn 2) cs)) (less (maskOf (free a)) 0) ≡ maskOf (free (outT q g (map locOf cs) a))
 unfolding free concat
 out-free q g cs a =
-    sym (mask-union (concat usedIn (map Value (g ∷ map locOf cs))) (free a)
-    ∙ ap₂ join (mask-union (usedIn (Value g)) (concat usedIn (map Value (map locOf cs))) ∙ ap (join (maskOf (usedIn (Value g)))) (mask-values cs))
+    sym (mask-cat (concat usedIn (map Value (g ∷ map locOf cs))) (free a)
+    ∙ ap₂ join (mask-cat (usedIn (Value g)) (concat usedIn (map Value (map locOf cs))) ∙ ap (join (maskOf (usedIn (Value g)))) (mask-values cs))
     (sym (less-none (maskOf (free a)))))
   where
     mask-values : (cs : List ℕ) → maskOf (concat usedIn (map Value (map locOf cs))) ≡ joins (varIn 2) cs
@@ -176,12 +176,12 @@ out-free q g cs a =
 free-of : (f : ℕ → Tree) (q : ℕ) (cs : List ℕ) (x : Action) → freeBy f cs (namesOf x) ≡ maskOf (free (node f q (actionLine x cs)))
 unfolding freeBy freeFields freeForks namesOf free node actionLine joins usedIn
 free-of f q cs Nil = sym mask-none
-free-of f q cs (Par a b) = ap (λ (m : ℕ). join m (join (maskOf (free (f a))) (maskOf (free (f b))))) mask-none ∙ join-none _ ∙ sym (mask-union (free (f a)) (free (f b)))
+free-of f q cs (Par a b) = ap (λ (m : ℕ). join m (join (maskOf (free (f a))) (maskOf (free (f b))))) mask-none ∙ join-none _ ∙ sym (mask-cat (free (f a)) (free (f b)))
 free-of f q cs (Rep a) = refl
 free-of f q cs (Out a g k) = out-free q g (take k cs) (f a)
 free-of f q cs (In a g k) = get-free q inBit g (take k cs) (f a)
 free-of f q cs (Read a g k) = get-free q readBit g (take k cs) (f a)
-free-of f q cs (Eval a g b k) = sym (mask-union (usedIn (Value g)) (free (f b) ⧺ free (f a)) ∙ ap (join (maskOf (usedIn (Value g)))) (mask-union (free (f b)) (free (f a))))
+free-of f q cs (Eval a g b k) = sym (mask-cat (usedIn (Value g)) (free (f b) ⧺ free (f a)) ∙ ap (join (maskOf (usedIn (Value g)))) (mask-cat (free (f b)) (free (f a))))
 free-of f q cs (Accept a k) = refl
 
 -- line q by the variables that it names

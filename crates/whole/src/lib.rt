@@ -22,7 +22,7 @@ use tables::Action;
 fn child_fits(q: usize, n: usize, child: u8) -> bool
     ensures { λ r. ⌜ r ≡ ltb q child & ltb child n ⌝ }
 {
-    let c = matching::wide(child);
+    let c = tables::wide(child);
     q < c && c < n
 }
 
@@ -105,7 +105,7 @@ fn roots_present(roots: &[u8; 128], m: usize, n: usize) -> bool
 {
     let mut i: usize = 0;
     while i < m {
-        if matching::wide(roots[2 * i + 1]) < n {
+        if tables::wide(roots[2 * i + 1]) < n {
             i += 1;
         } else {
             return false;

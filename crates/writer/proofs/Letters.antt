@@ -9,7 +9,7 @@ use borrow.Author.Tests.{eq-eqb, ne-eqb}
 use lib.ListN.{length}
 use Rattle.sets.specs.Lists.{_⧺_, only, keep, concat}
 use Rattle.sets.specs.Bits.{has}
-use Rattle.sets.proofs.Lists.{length-union}
+use Rattle.sets.proofs.Lists.{length-cat}
 use Rattle.klaim.specs.Listing.{letter, letters, siteName}
 use Rattle.writer.proofs.Numeral.{numeral-short}
 
@@ -42,7 +42,7 @@ unfolding letters keep letter
 letters-parts m = simp (part, last)
 
 pub length-letters : (m : ℕ) → length (letters m) ≡ length (mark m 1 111) + (length (mark m 2 105) + (length (mark m 4 114) + (length (mark m 8 101) + length (mark m 16 97))))
-length-letters m = ap length (letters-parts m) ∙ simp length-union
+length-letters m = ap length (letters-parts m) ∙ simp length-cat
 
 mark-short : (b : Bool) (x : ℕ) → length (only b x) ≤ 1
 unfolding only

@@ -10,7 +10,7 @@ use lib.Dec.{lit<}
 use lib.ListN.{length}
 use borrow.Author.Tests.{lt-ltb, le-ltb}
 use Rattle.sets.specs.Lists.{_⧺_}
-use Rattle.sets.proofs.Lists.{length-union}
+use Rattle.sets.proofs.Lists.{length-cat}
 use Rattle.klaim.specs.Listing.{digits, numeral}
 
 few : (k n : ℕ) → n < 10 → digits k n ≡ (48 + n) ∷ []
@@ -44,7 +44,7 @@ numeral-last zero h = absurd (omega arith)
 numeral-last (suc m) h = many m (suc m) h ∙ ap (λ (l : List ℕ). l ⧺ ((48 + suc m % 10) ∷ [])) (fuel m (suc m / 10) (suc m / 10) (omega arith) (omega arith))
 
 pub length-last : (n : ℕ) → 10 ≤ n → length (numeral n) ≡ length (numeral (n / 10)) + 1
-length-last n h = ap length (numeral-last n h) ∙ length-union (numeral (n / 10)) ((48 + n % 10) ∷ [])
+length-last n h = ap length (numeral-last n h) ∙ length-cat (numeral (n / 10)) ((48 + n % 10) ∷ [])
 
 -- a number below 10 ^ (k + 1) has at most k + 1 digits
 pub numeral-short : (k n : ℕ) → n < 10 ^ suc k → length (numeral n) ≤ suc k

@@ -9,7 +9,7 @@ use native.Mathlib.Nat.{add-zero}
 use lib.ListN.{length, take, drop, set, getD, length-append, length-drop, length-take, take-append-drop}
 use lib.Seq.{length-take-le, take-at, drop-append-add, drop-drop, set-split, append-snoc, take-suc}
 use Rattle.sets.specs.Lists.{_⧺_}
-use Rattle.sets.proofs.Lists.{length-union, union-append}
+use Rattle.sets.proofs.Lists.{length-cat, cat-append}
 use Rattle.writer.specs.Wrote.{Wrote}
 
 -- nothing written
@@ -37,9 +37,9 @@ wrote-long {a} {b} {at} {next} {xs} w =
 -- a write behind a write
 pub wrote-then : {a b c : List ℕ} {at next last : ℕ} {xs ys : List ℕ} → Wrote a b at xs next → Wrote b c next ys last → Wrote a c at (xs ⧺ ys) last
 wrote-then {a} {b} {c} {at} {next} {last} {xs} {ys} w v = record {
-  room = omega (arith, length-union xs ys, w .room, w .ends, v .room, wrote-long w);
+  room = omega (arith, length-cat xs ys, w .room, w .ends, v .room, wrote-long w);
   is = v .is ∙ ap (λ (l : List ℕ). l ++ ys ++ drop (next + length ys) b) front ∙ ap (λ (l : List ℕ). take at a ++ xs ++ ys ++ l) behind ∙ joined;
-  ends = omega (arith, length-union xs ys, w .ends, v .ends);
+  ends = omega (arith, length-cat xs ys, w .ends, v .ends);
 }
   where
     head : length (take at a ++ xs) ≡ next
@@ -50,7 +50,7 @@ wrote-then {a} {b} {c} {at} {next} {last} {xs} {ys} w v = record {
 
     behind : drop (next + length ys) b ≡ drop (at + length (xs ⧺ ys)) a
     behind =
-        let e : at + length xs + length ys ≡ at + length (xs ⧺ ys) = omega (arith, length-union xs ys) in
+        let e : at + length xs + length ys ≡ at + length (xs ⧺ ys) = omega (arith, length-cat xs ys) in
         ap (λ (l : List ℕ). drop (next + length ys) l) (w .is)
         ∙ ap (λ (n : ℕ). drop (n + length ys) (take at a ++ xs ++ drop (at + length xs) a)) (sym head)
         ∙ drop-append-add (take at a ++ xs) (drop (at + length xs) a) (length ys)
@@ -58,7 +58,7 @@ wrote-then {a} {b} {c} {at} {next} {last} {xs} {ys} w v = record {
         ∙ ap (λ (n : ℕ). drop n a) e
 
     joined : take at a ++ xs ++ ys ++ drop (at + length (xs ⧺ ys)) a ≡ take at a ++ (xs ⧺ ys) ++ drop (at + length (xs ⧺ ys)) a
-    joined = ap (λ (l : List ℕ). l ++ drop (at + length (xs ⧺ ys)) a) (append-assoc (take at a) xs ys ∙ ap (λ (l : List ℕ). take at a ++ l) (sym (union-append xs ys)))
+    joined = ap (λ (l : List ℕ). l ++ drop (at + length (xs ⧺ ys)) a) (append-assoc (take at a) xs ys ∙ ap (λ (l : List ℕ). take at a ++ l) (sym (cat-append xs ys)))
 
 -- the same write, its bytes said otherwise
 pub wrote-as : {a b : List ℕ} {at next : ℕ} {xs ys : List ℕ} → xs ≡ ys → Wrote a b at xs next → Wrote a b at ys next
@@ -69,7 +69,7 @@ pub wrote-more : {a b : List ℕ} {at : ℕ} (t : List ℕ) (i : ℕ) → i < le
 wrote-more {a} {b} {at} t i h room w = wrote-as bytes (wrote-next (omega arith) (wrote-then w (wrote-byte b (at + i) (getD t i 0) (omega (arith, wrote-long w)))))
   where
     bytes : take i t ⧺ (getD t i 0 ∷ []) ≡ take (i + 1) t
-    bytes = union-append (take i t) (getD t i 0 ∷ []) ∙ sym (take-suc t i 0 h) ∙ ap (λ (n : ℕ). take n t) (sym (add-one i))
+    bytes = cat-append (take i t) (getD t i 0 ∷ []) ∙ sym (take-suc t i 0 h) ∙ ap (λ (n : ℕ). take n t) (sym (add-one i))
 
     wrote-next : {c ys : List ℕ} {m n : ℕ} → m ≡ n → Wrote a c at ys m → Wrote a c at ys n
     wrote-next {c} {ys} e v = subst (λ (n : ℕ). Wrote a c at ys n) e v

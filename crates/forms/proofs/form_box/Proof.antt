@@ -3,7 +3,7 @@ use Rattle.sets.specs.Lists.{_&_, either, only}
 use Rattle.text.specs.Fields.{upTo}
 use Rattle.lines.specs.Lines.{names, present, nameFits, fieldsFit, lineShape}
 use Rattle.forms.specs.Forms.{rowView, rowData, plainRow, listed, pairGroup, tupleGroup, plainShape, plainGood, rowGood}
-use Rattle.sets.proofs.Runs.{union-none}
+use Rattle.sets.proofs.Runs.{cat-none}
 use Rattle.forms.proofs.RowForms.{box-by}
 use native.Mathlib.Omega.{arith}
 use borrow.Author.Needs.{needs}
@@ -30,7 +30,7 @@ fit-requires c κs = search needs
 
 returns-4 : tie.Need-returns-4
 unfolding rowView given rowData plainRow listed only names rowGood plainGood plainShape pairGroup tupleGroup either lineShape present nameFits fieldsFit _&_
-returns-4 c = (λ fs M p N r. rw (box-by fs _ M _ _ _ p N r, eq-eqb _ _ (c .before .before .before .before .if1 .left), lt-ltb _ _ (c .before .before .before .if2 .left), lt-ltb 0 (c .before .before .before .before .before .args .rights) (omega arith), sym (c .before .fit .ensures) ∙ c .if4 .taken, union-none), rw (lt-ltb _ _ (c .before .before .before .if2 .left), lt-ltb 0 (c .before .before .before .before .before .args .rights) (omega arith), sym (c .before .fit .ensures) ∙ c .if4 .taken))
+returns-4 c = (λ fs M p N r. rw (box-by fs _ M _ _ _ p N r, eq-eqb _ _ (c .before .before .before .before .if1 .left), lt-ltb _ _ (c .before .before .before .if2 .left), lt-ltb 0 (c .before .before .before .before .before .args .rights) (omega arith), sym (c .before .fit .ensures) ∙ c .if4 .taken, cat-none), rw (lt-ltb _ _ (c .before .before .before .if2 .left), lt-ltb 0 (c .before .before .before .before .before .args .rights) (omega arith), sym (c .before .fit .ensures) ∙ c .if4 .taken))
 
 returns-5 : tie.Need-returns-5
 unfolding rowView given rowGood

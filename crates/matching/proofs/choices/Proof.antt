@@ -1,12 +1,12 @@
+use Rattle.sets.specs.Lists.{product}
 use mathlib.Core.Path.{_≡_, ap, _∙_}
-use Prim.Native.Nat.{ℕ, _≤_, _-_, min}
+use Prim.Native.Nat.{ℕ, _≤_, min}
 use native.Mathlib.Omega.{arith}
 use lib.ListN.{length, drop}
 use borrow.Author.Needs.{needs}
 use mathlib.Core.List.{map}
 use lib.ListN.{take}
 use Rattle.sets.specs.Bits.{sites}
-use Rattle.klaim.proofs.Choices.{product}
 use Rattle.matching.proofs.Laws.{product-end, product-down}
 use Rattle.matching.proofs.choices.Statement.{statement}
 use Rattle.matching.proofs.choices.Tie as tie

@@ -4,9 +4,8 @@ use Prim.Native.Nat.{ℕ, _<_}
 use native.Mathlib.Omega.{arith}
 use lib.Dec.{eqb, ltb}
 use lib.ListN.{length}
-use Rattle.sets.specs.Lists.{_&_}
+use Rattle.sets.specs.Lists.{_&_, fits}
 use Rattle.sets.proofs.Lists.{and-l, and-r, eqb-eq, ltb-lt}
-use Rattle.klaim.proofs.Choices.{fits}
 use Rattle.tables.specs.View.{rowAt}
 use Rattle.matching.specs.Index.{words, inRows}
 use Rattle.matching.proofs.Laws.{Sets, sets-long}

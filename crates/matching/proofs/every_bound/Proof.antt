@@ -2,9 +2,8 @@ use mathlib.Core.Path.{_≡_, sym, _∙_}
 use Prim.Native.Nat.{ℕ, _<_}
 use lib.Dec.{ltb}
 use lib.ListN.{length}
-use Rattle.sets.specs.Lists.{_&_}
+use Rattle.sets.specs.Lists.{_&_, fits}
 use Rattle.sets.proofs.Lists.{and-l, and-r, ltb-lt}
-use Rattle.klaim.proofs.Choices.{fits}
 use Rattle.tables.specs.View.{rowAt, rowsView}
 use Rattle.matching.specs.Index.{words, inRows, Long}
 use Rattle.matching.proofs.Laws.{Sets, sets-long, fits-long}

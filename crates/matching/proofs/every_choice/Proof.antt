@@ -1,9 +1,9 @@
+use Rattle.sets.specs.Lists.{fits}
 use mathlib.Core.Path.{_∙_}
 use Prim.Native.Nat.{_≤_}
 use native.Mathlib.Omega.{arith}
 use lib.ListN.{length}
 use Rattle.sets.proofs.Tables.{length-table}
-use Rattle.klaim.proofs.Choices.{fits}
 use Rattle.tables.specs.View.{rowAt, rowsView}
 use Rattle.matching.specs.Index.{words}
 use Rattle.matching.proofs.Laws.{Sets, count-rule}

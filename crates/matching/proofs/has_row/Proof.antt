@@ -3,12 +3,11 @@ use mathlib.Core.List.{List, map}
 use Prim.Native.Nat.{ℕ, _<_}
 use native.Mathlib.Omega.{arith}
 use lib.Dec.{ltb}
-use Rattle.sets.specs.Lists.{_&_, same}
+use Rattle.sets.specs.Lists.{_&_, same, fits}
 use Rattle.sets.specs.Bits.{sites}
 use Rattle.sets.proofs.Lists.{ltb-lt}
 use Rattle.sets.proofs.Tables.{table-all}
 use Rattle.klaim.specs.Invariant.{allBelow}
-use Rattle.klaim.proofs.Choices.{fits}
 use Rattle.tables.specs.View.{rowAt, rowsView}
 use Rattle.matching.specs.Index.{words, inRows}
 use Rattle.matching.proofs.Laws.{row-long}

@@ -4,10 +4,9 @@ use mathlib.Core.List.{List}
 use Prim.Native.Nat.{ℕ, _+_, _-_, _<_, _≤_}
 use native.Mathlib.Omega.{arith}
 use lib.ListN.{length, getD, drop}
-use Rattle.sets.specs.Lists.{_&_}
+use Rattle.sets.specs.Lists.{_&_, fits}
 use Rattle.sets.specs.Bits.{mem}
 use Rattle.sets.proofs.Lists.{and-l}
-use Rattle.klaim.proofs.Choices.{fits}
 use Rattle.tables.specs.View.{rowAt}
 use Rattle.matching.specs.Index.{inColumn, words, inRows, Indexed, Low, Long}
 use Rattle.matching.proofs.Laws.{Sets}

@@ -49,14 +49,14 @@ use denote.Triple.Clauses.{ensured, lasts}
 use denote.Exit.{yes}
 use Rattle.threads.specs.declared.Thread.{Thread}
 use Rattle.threads.specs.View.{noThread}
-use Rattle.ready.specs.declared.World.{World}
+use Rattle.ready.specs.declared.Context.{Context}
 use Rattle.ready.specs.Scan.{Testable, AllTestable, Tested, Found}
 use Rattle.ready.proofs.Places.{holds, fails, offset-fits, nearer, Known, at-first, goes-on, found-here, found-none}
 use Rattle.ready.proofs.Test.{tests, parts}
 use Rattle.threads.proofs.Thread as T
 use Rattle.threads.proofs.Thread.Laws as T′
-use Rattle.ready.proofs.World as D
-use Rattle.ready.proofs.World.Laws as D′
+use Rattle.ready.proofs.Context as D
+use Rattle.ready.proofs.Context.Laws as D′
 use Rattle.ready.proofs.able as callee
 use Rattle.ready.proofs.able.Symbol as callee-def
 use Rattle.ready.proofs.able.Symbol.{name as #ready·able}
@@ -82,8 +82,8 @@ module _ {M : Type 1} (𝓤 : URA M) (H : Heap 𝓤) (A : Atoms 𝓤) (mem : Mem
   abbrev Able : Contract 𝓤
   Able = tripleOf 𝓤 H A callee.signature (callee.spec 𝓤 H A mem run)
 
-module _ {M : Type 1} (𝓤 : URA M) (H : Heap 𝓤) (A : Atoms 𝓤) (W : Given 𝓤 H A) (mem : Memory → SProp 𝓤) (run : Routine → Fun 𝓤) (κ : Lft) (q : Share) (b o : ℕ) (γ : GName) (ys : List Thread) (w : World) where
-  abbrev x : RefT (List Thread) × (World × Unit {0})
+module _ {M : Type 1} (𝓤 : URA M) (H : Heap 𝓤) (A : Atoms 𝓤) (W : Given 𝓤 H A) (mem : Memory → SProp 𝓤) (run : Routine → Fun 𝓤) (κ : Lft) (q : Share) (b o : ℕ) (γ : GName) (ys : List Thread) (w : Context) where
+  abbrev x : RefT (List Thread) × (Context × Unit {0})
   x = (record { ptr = (b, o); name = γ; now = ys }, (w, tt))
 
   abbrev n : ℕ

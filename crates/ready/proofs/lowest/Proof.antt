@@ -47,13 +47,13 @@ use denote.Triple.Clauses.{ensured, lasts}
 use denote.Exit.{yes}
 use denote.Signature.Array.{arrayOf}
 use Rattle.threads.specs.declared.Thread.{Thread}
-use Rattle.ready.specs.declared.World.{World}
+use Rattle.ready.specs.declared.Context.{Context}
 use Rattle.ready.specs.Scan.{AllTestable, Found}
 use Rattle.ready.proofs.Row.{cut, glue, laid, room-back}
 use Rattle.threads.proofs.Thread as T
 use Rattle.threads.proofs.Thread.Laws as T′
-use Rattle.ready.proofs.World as D
-use Rattle.ready.proofs.World.Laws as D′
+use Rattle.ready.proofs.Context as D
+use Rattle.ready.proofs.Context.Laws as D′
 use Rattle.ready.proofs.first as callee
 use Rattle.ready.proofs.first.Symbol as callee-def
 use Rattle.ready.proofs.first.Symbol.{name as #ready·first}
@@ -75,7 +75,7 @@ module _ {M : Type 1} (𝓤 : URA M) (H : Heap 𝓤) (A : Atoms 𝓤) (mem : Mem
   abbrev First : Contract 𝓤
   First = tripleOf 𝓤 H A callee.signature (callee.spec 𝓤 H A mem run)
 
-module _ {M : Type 1} (𝓤 : URA M) (H : Heap 𝓤) (A : Atoms 𝓤) (W : Given 𝓤 H A) (at-mem : Memory → SProp 𝓤) (run : Routine → Fun 𝓤) (xs : List Thread) (n : ℕ) (w : World) where
+module _ {M : Type 1} (𝓤 : URA M) (H : Heap 𝓤) (A : Atoms 𝓤) (W : Given 𝓤 H A) (at-mem : Memory → SProp 𝓤) (run : Routine → Fun 𝓤) (xs : List Thread) (n : ℕ) (w : Context) where
   abbrev ys : List Thread
   ys = take n xs
 

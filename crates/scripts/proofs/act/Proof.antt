@@ -12,7 +12,7 @@ say-step-requires c κs = search needs
 returns : tie.Need-returns
 returns c =
     let s = c .before .before .before .before .before .before .before .before .before .before .before in
-    c .before .step .ensures .0 (s .args .t1) (s .pre) (own-parts (s .args .t1)) .fits
+    c .before .step .ensures .0 (s .args .t1) (s .pre) (own-parts (s .args .t1))
 
 pub act-spec : {M : Type 1} → statement M
 act-spec = tie.close (tie.spec step-requires say-step-requires returns)

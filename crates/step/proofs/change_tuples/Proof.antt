@@ -1,4 +1,4 @@
-use mathlib.Core.Path.{_∙_}
+use mathlib.Core.Path.{refl, _∙_}
 use Prim.Native.Nat.{_≤_, _+_}
 use native.Mathlib.Omega.{arith}
 use borrow.Author.Tests.{ne-eqb}
@@ -12,16 +12,16 @@ put-tuple-requires c κs =
     (omega arith, s .pre .3)
 
 returns : tie.Need-returns
-returns c = (rw (c .before .before .if1 .taken) (c .put-tuple .ensures .1), c .put-tuple .ensures .0 .long ∙ c .before .before .before .pre .3)
+returns c = (rw (c .before .before .if1 .taken) (c .put-tuple .ensures .1), (c .put-tuple .ensures .0 .long ∙ c .before .before .before .pre .3, rw (c .before .before .if1 .taken) (λ j h l. c .put-tuple .ensures .0 .behind j (omega (arith, l)))))
 
 remove-row-requires : tie.Need-remove-row-requires
 remove-row-requires c κs = let s = c .before .before .before in (s .pre .2 (c .before .if2 .taken), s .pre .0, s .pre .3)
 
 returns-2 : tie.Need-returns-2
-returns-2 c = (rw (c .before .before .if2 .taken) (c .remove-row .ensures .0), c .remove-row .ensures .1)
+returns-2 c = (rw (c .before .before .if2 .taken) (c .remove-row .ensures .0 .0), (c .remove-row .ensures .0 .1, rw (c .before .before .if2 .taken) (λ j h l. c .remove-row .ensures .1 j (omega (arith, l)))))
 
 returns-3 : tie.Need-returns-3
-returns-3 c = (rw (ne-eqb _ 1 (c .before .if1 .left), ne-eqb _ 2 (c .if2 .left)), c .before .before .pre .3)
+returns-3 c = (rw (ne-eqb _ 1 (c .before .if1 .left), ne-eqb _ 2 (c .if2 .left)), (c .before .before .pre .3, λ j h l. refl))
 
 pub change-tuples-spec : {M : Type 1} → statement M
 change-tuples-spec =

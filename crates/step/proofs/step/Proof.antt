@@ -46,7 +46,7 @@ returns c =
       λ x g e.
           let f = joined-fits x e g in
           stepped-joined (ar .guarded) (ar .k) (ar .m) (ar .r) x e _ _ (stepped-no (ar .guarded) (joined x e) (ar .k) (ar .m) (ar .r) (c .refusing .result) f (no-thread (ar .guarded) (joined x e) (ar .k) (ar .m) (ar .r) (c .before .if1 .taken) (omega (arith, long s, f .threads-few))) (c .refusing .ensures)),
-      λ h. refl,
+      (λ h. refl, λ j h l. refl),
     )
 
 mul-th : tie.Need-mul-th Inv-loop μ-loop
@@ -76,7 +76,7 @@ returns-2 c =
           let f = joined-fits x e g in
           let o = c .before .before .decide .ensures (stateView y) (thread-tables f (long s) (ar .k) h) (homes-is y) in
           stepped-joined (ar .guarded) (ar .k) (ar .m) (ar .r) x e _ _ (stepped-no (ar .guarded) y (ar .k) (ar .m) (ar .r) (c .refusing2 .result) f (step-no (ar .guarded) y (ar .k) (ar .m) (ar .r) f (long s) h d o (c .before .if2 .taken)) (c .refusing2 .ensures)),
-      λ h. refl,
+      (λ h. refl, λ j h l. refl),
     )
 
 change-tuples-requires : tie.Need-change-tuples-requires Inv-loop μ-loop
@@ -176,7 +176,8 @@ returns-3 c =
     let z = c .before .before .before .before .before .before .before .before .before .before .before .before .before .if2 .left in
     let t = c .before .before .before .before .before .before .before .before .change-tuples in
     let a = c .before .before .before .before .before .before .stepped in
-    let at = c .before .before .before .loop in (
+    let at = c .before .before .before .loop in
+    let taken = c .before .before .before .before .before .before .before .before .before .before .before .before .before .before .decide .ensures (stateView (handed s)) (thread-tables (handed-fits s) (long s) (ar .k) h) (homes-is (handed s)) in (
       λ x g p.
           let y = joined x p in
           let f = joined-fits x p g in
@@ -185,8 +186,11 @@ returns-3 c =
           let few : ar .run .nthreads ≤ length (ar .run .threads) = omega (arith, long s, f .threads-few) in
           let e = shifted-all (ar .run .nthreads) (ar .k) (ar .run .threads) (d .plan .thread) h few _ refl (d .sizes .nil) (rw (c .before .before .before .before .gap .ensures) at (at .inv .0)) (c .before .before .loop-test .left) in
           let w = shifted-long (ar .run .nthreads) (ar .k) (ar .run .threads) (d .plan .thread) h few _ refl (at .inv .0) ∙ long s in
-          stepped-run (ap (λ (nx : Run). withThreads nx (set (at .next .threads) (d .sizes .left) (d .plan .added))) (sym (at .inv .0 .same))) (stepped-joined (ar .guarded) (ar .k) (ar .m) (ar .r) x p _ _ (performs-more (ar .guarded) y (ar .k) (ar .m) (ar .r) f (long s) h d o z _ (t .ensures .1) _ (a .ensures) rows (at .next .threads) w e (c .before .if3 .taken))),
-      λ l. absurd (given-unrefused (a .result) (a .ensures) (omega (arith, l, ap (λ (nx : Run). nx .told .number) (at .inv .0 .same)))),
+          stepped-run (ap (λ (nx : Run). withThreads nx (set (at .next .threads) (d .sizes .left) (d .plan .added))) (sym (at .inv .0 .same))) (stepped-joined (ar .guarded) (ar .k) (ar .m) (ar .r) x p _ _ (performs-more (ar .guarded) y (ar .k) (ar .m) (ar .r) f (long s) h d o z _ (t .ensures .1 .0) _ (a .ensures) rows (at .next .threads) w e (c .before .if3 .taken))),
+      (
+        λ l. absurd (given-unrefused (a .result) (a .ensures) (omega (arith, l, ap (λ (nx : Run). nx .told .number) (at .inv .0 .same)))),
+        λ j l q. t .ensures .1 .1 j l (omega (arith, q, ap (λ (nx : Run). nx .ntuples) (at .inv .0 .same), taken .measured .tuplesIs)),
+      ),
     )
 
 returns-4 : tie.Need-returns-4 Inv-loop μ-loop
@@ -199,7 +203,8 @@ returns-4 c =
     let z = c .before .before .before .before .before .before .before .before .before .before .before .before .if2 .left in
     let t = c .before .before .before .before .before .before .before .change-tuples in
     let a = c .before .before .before .before .before .stepped in
-    let at = c .before .before .loop in (
+    let at = c .before .before .loop in
+    let taken = c .before .before .before .before .before .before .before .before .before .before .before .before .before .decide .ensures (stateView (handed s)) (thread-tables (handed-fits s) (long s) (ar .k) h) (homes-is (handed s)) in (
       λ x g p.
           let y = joined x p in
           let f = joined-fits x p g in
@@ -207,8 +212,11 @@ returns-4 c =
           let rows = rows-view _ (o .measured .tuplesIs) (t .ensures .0) in
           let few : ar .run .nthreads ≤ length (ar .run .threads) = omega (arith, long s, f .threads-few) in
           let e = shifted-all (ar .run .nthreads) (ar .k) (ar .run .threads) (d .plan .thread) h few _ refl (d .sizes .nil) (rw (c .before .before .before .gap .ensures) at (at .inv .0)) (c .before .loop-test .left) in
-          stepped-run (sym (at .inv .0 .same)) (stepped-joined (ar .guarded) (ar .k) (ar .m) (ar .r) x p _ _ (performs-alone (ar .guarded) y (ar .k) (ar .m) (ar .r) f (long s) h d o z _ (t .ensures .1) _ (a .ensures) rows (at .next .threads) e (c .if3 .left))),
-      λ l. absurd (given-unrefused (a .result) (a .ensures) (omega (arith, l, ap (λ (nx : Run). nx .told .number) (at .inv .0 .same)))),
+          stepped-run (sym (at .inv .0 .same)) (stepped-joined (ar .guarded) (ar .k) (ar .m) (ar .r) x p _ _ (performs-alone (ar .guarded) y (ar .k) (ar .m) (ar .r) f (long s) h d o z _ (t .ensures .1 .0) _ (a .ensures) rows (at .next .threads) e (c .if3 .left))),
+      (
+        λ l. absurd (given-unrefused (a .result) (a .ensures) (omega (arith, l, ap (λ (nx : Run). nx .told .number) (at .inv .0 .same)))),
+        λ j l q. t .ensures .1 .1 j l (omega (arith, q, ap (λ (nx : Run). nx .ntuples) (at .inv .0 .same), taken .measured .tuplesIs)),
+      ),
     )
 
 pub step-spec : {M : Type 1} → statement M

@@ -48,7 +48,7 @@ returns c =
     let at = c .before .loop in
     let s = c .before .before in
     let e : at .i ≡ 6 * (s .args .n - 1) = omega arith in
-    (moved-all (s .args .n) (s .args .m) (rw e at (at .inv .5)) (s .pre .0) (omega arith), at .inv .5 .long ∙ at .inv .4)
+    ((moved-all (s .args .n) (s .args .m) (rw e at (at .inv .5)) (s .pre .0) (omega arith), at .inv .5 .long ∙ at .inv .4), λ j h. at .inv .5 .rest j (omega (arith, e, h)))
 
 pub remove-row-spec : {M : Type 1} → statement M
 remove-row-spec =
