@@ -139,23 +139,41 @@ module _ (n : ℕ) (above : List Row) (row : RowData) (t : Tally) (G : rowGood r
 pub passed : (row : RowData) (t : Tally) → earlyOf row (fullOf (row .group) t) (placedOf (row .group) t) ≡ 0 → Passed row t
 passed row t e = let p = early-passed row e in record { some = p .0; low = p .1; room = p .2; placed = p .3 }
 
+-- there is room for each E row
+pub early-e : (row : RowData) (t : Tally) → row .group ≡ groupE → {placed : Bool} → placed ≡ placedOf groupE t → earlyOf row false placed ≡ earlyOf row (fullOf (row .group) t) (placedOf (row .group) t)
+unfolding fullOf _&_
+early-e row t g p = rw (g, p)
+
+pub group-e : (row : RowData) → row .group ≡ groupE → pairGroup (row .group) ≡ true
+unfolding pairGroup either
+group-e row g = rw g
+
 -- a row in its place is no Q row
 pub no-process : (row : RowData) (t : Tally) → Passed row t → row .group ≡ groupQ → ⊥
 unfolding placedOf
 no-process row t P e = let l = leb-le groupB (row .group) (and-l _ _ (P .placed)) in omega arith
 
--- a row in its place that is no B and no A row is an E row
-pub last-group : (row : RowData) (t : Tally) → rowGood row ≡ true → Passed row t → (row .group ≡ groupB → ⊥) → (row .group ≡ groupA → ⊥) → row .group ≡ groupE
+-- a row in its place is a B, an A or an E row
+no-other : (row : RowData) (t : Tally) → rowGood row ≡ true → Passed row t → (row .group ≡ groupB → ⊥) → (row .group ≡ groupA → ⊥) → (row .group ≡ groupE → ⊥) → ⊥
 unfolding rowGood plainGood pairGroup tupleGroup either placedOf
-last-group row t G P b a = go (ℕ-discrete (row .group) groupE)
+no-other row t G P b a e =
+    let g = row .group in
+    let l = leb-le groupB g (and-l _ _ (P .placed)) in
+    let no-group = rw (ne-eqb g 0 (λ z. omega arith), ne-eqb g 6 (λ z. omega arith), ne-eqb g 2 (λ z. omega arith), ne-eqb g 9 e, ne-eqb g 4 (λ z. omega arith), ne-eqb g 8 a, ne-eqb g 1 (λ z. omega arith), ne-eqb g 3 (λ z. omega arith), ne-eqb g 5 (λ z. omega arith), ne-eqb g 7 b) at G in
+    false≢true (and-l _ _ (and-r _ _ no-group))
+
+settled : (g h : ℕ) → ((g ≡ h → ⊥) → ⊥) → g ≡ h
+settled g h f = go (ℕ-discrete g h)
   where
-    go : Dec (row .group ≡ groupE) → row .group ≡ groupE
+    go : Dec (g ≡ h) → g ≡ h
     go (yes e) = e
-    go (no e) =
-        let g = row .group in
-        let l = leb-le groupB g (and-l _ _ (P .placed)) in
-        let no-group = rw (ne-eqb g 0 (λ z. omega arith), ne-eqb g 6 (λ z. omega arith), ne-eqb g 2 (λ z. omega arith), ne-eqb g 9 e, ne-eqb g 4 (λ z. omega arith), ne-eqb g 8 a, ne-eqb g 1 (λ z. omega arith), ne-eqb g 3 (λ z. omega arith), ne-eqb g 5 (λ z. omega arith), ne-eqb g 7 b) at G in
-        absurd (false≢true (and-l _ _ (and-r _ _ no-group)))
+    go (no e) = absurd (f e)
+
+pub last-group : (row : RowData) (t : Tally) → rowGood row ≡ true → Passed row t → (row .group ≡ groupB → ⊥) → (row .group ≡ groupA → ⊥) → row .group ≡ groupE
+last-group row t G P b a = settled (row .group) groupE (no-other row t G P b a)
+
+pub tuple-group : (row : RowData) (t : Tally) → rowGood row ≡ true → Passed row t → (row .group ≡ groupE → ⊥) → (row .group ≡ groupB → ⊥) → row .group ≡ groupA
+tuple-group row t G P e b = settled (row .group) groupA (λ a. no-other row t G P b a e)
 
 -- there is room for one A row more
 pub room-a : (row : RowData) (t : Tally) → Passed row t → row .group ≡ groupA → t .tuples < 256

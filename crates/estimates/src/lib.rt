@@ -4,7 +4,7 @@ ghost use mathlib.Core.Bool.{true};
 ghost use mathlib.Core.List.{List, [], _∷_, _++_};
 ghost use Prim.Native.Nat.{ℕ, _+_, _<_, _≤_};
 ghost use lib.ListN.{length};
-ghost use Rattle.klaim.specs.Rows.{Row, groupA};
+ghost use Rattle.klaim.specs.Rows.{Row, groupA, groupE};
 ghost use Rattle.klaim.specs.Reader.{anEstimate, judge, repeated, readEstimate};
 ghost use Rattle.forms.specs.Forms.{rowView, rowData, rowGood};
 ghost use Rattle.scan.specs.Numbers.{judgedBy};
@@ -18,6 +18,7 @@ use tables::Estimate;
 use tables::TUPLES;
 use text::GROUP_A;
 use text::GROUP_B;
+use text::GROUP_E;
 
 // An estimate, or the number of a refusal and its row; the number is 0 if there is none.
 pub struct EstimateRead {
@@ -48,26 +49,38 @@ fn is_placed(group: u8, tally: Tally) -> bool
     last <= group
 }
 
-// Whether the row stands above.
-fn is_seen(
-    row: RowData,
-    tally: Tally,
-    binds: &[u32; 32],
-    keys: &[u32; 256],
-    hold: &[u8; 1024],
-) -> bool
+// Whether the row, a B or an A row, stands above.
+fn is_seen(row: RowData, tally: Tally, binds: &[u32; 32], keys: &[u32; 256]) -> bool
     requires { ⌜ rowGood row ≡ true ⌝ }
     requires { ⌜ Passed row tally ⌝ }
+    requires { ⌜ (row .group ≡ groupE → ⊥) ⌝ }
     requires { ⌜ tally .tuples ≤ 256 ⌝ }
-    requires { ⌜ (length (now binds) ≡ 32) × (length (now keys) ≡ 256) × (length (now hold) ≡ 1024) ⌝ }
-    ensures { λ r. ⌜ ((n : ℕ) (above : List Row) (stand : List ℕ) → EstimateTally n above tally → EstimateTables above (now (binds .entry)) stand (tally .tuples) (now (hold .entry)) → KeysAre groupA above (now (keys .entry)) (tally .tuples) → r ≡ repeated above (rowData row)) ⌝ }
+    requires { ⌜ (length (now binds) ≡ 32) × (length (now keys) ≡ 256) ⌝ }
+    ensures { λ r. ⌜ ((n : ℕ) (above : List Row) (stand hold : List ℕ) → EstimateTally n above tally → EstimateTables above (now (binds .entry)) stand (tally .tuples) hold → KeysAre groupA above (now (keys .entry)) (tally .tuples) → r ≡ repeated above (rowData row)) ⌝ }
 {
     let group = row.group;
-    match group {
-        GROUP_B => repeats::bound_seen(binds, row),
-        GROUP_A => repeats::tuple_seen(keys, tally.tuples, row),
-        _ => repeats::pair_seen(hold, row),
+    if group == GROUP_B {
+        return repeats::bound_seen(binds, row);
     }
+    repeats::tuple_seen(keys, tally.tuples, row)
+}
+
+// The number by which an E row is refused, or 0.
+fn pair_number(row: RowData, tally: Tally, hold: &[u8; 1024]) -> u8
+    requires { ⌜ rowGood row ≡ true ⌝ }
+    requires { ⌜ row .group ≡ groupE ⌝ }
+    requires { ⌜ length (now hold) ≡ 1024 ⌝ }
+    ensures { λ r. ⌜ ((n : ℕ) (above : List Row) (binds stand : List ℕ) → EstimateTally n above tally → EstimateTables above binds stand (tally .tuples) (now (hold .entry)) → judge (anEstimate n) above (rowView row) ≡ judgedBy r (rowData row)) ⌝ }
+    ensures { λ r. ⌜ (r ≡ 0 → Passed row tally) ⌝ }
+{
+    let first = scan::early_pair(row, false, is_placed(GROUP_E, tally));
+    if first != 0 {
+        return first;
+    }
+    if repeats::pair_seen(hold, row) {
+        return 3;
+    }
+    scan::sited_pair(row, tally.size)
 }
 
 // The number by which the row is refused, or 0.
@@ -85,11 +98,14 @@ fn row_number(
     ensures { λ r. ⌜ (r ≡ 0 → Passed row tally) ⌝ }
 {
     let group = row.group;
+    if group == GROUP_E {
+        return pair_number(row, tally, hold);
+    }
     let first = scan::early(row, is_full(group, tally), is_placed(group, tally));
     if first != 0 {
         return first;
     }
-    if is_seen(row, tally, binds, keys, hold) {
+    if is_seen(row, tally, binds, keys) {
         return 3;
     }
     scan::sited(row, tally.size)

@@ -11,7 +11,7 @@ use lib.Dec.{eqb, ltb}
 use borrow.Author.Tests.{lt-ltb, ltb-true, leb-true}
 use Rattle.sets.specs.Lists.{_&_, either, only, _⧺_}
 use Rattle.sets.proofs.Lists.{and-l, and-r, eqb-eq}
-use Rattle.klaim.specs.Rows.{given, groupN, groupR, groupD, groupT, groupL, groupQ, groupB, groupA, groupE, rowLine}
+use Rattle.klaim.specs.Rows.{Row, given, groupN, groupR, groupD, groupT, groupL, groupQ, groupB, groupA, groupE, rowLine}
 use Rattle.text.specs.declared.Name.{Name}
 use Rattle.text.specs.Fields.{noNumber, upTo, sitesTo}
 use Rattle.lines.specs.declared.Four.{Four}
@@ -83,6 +83,9 @@ view-none r e = rw e
 pub view-some : (r : RowData) → (r .group ≡ 0 → ⊥) → rowView r ≡ some (rowData r)
 unfolding rowView given
 view-some r h = rw (lt-ltb 0 (r .group) (omega arith))
+
+pub row-of : (r : RowData) (R : Row) → (r .group ≡ 0 → ⊥) → rowView r ≡ some R → rowData r ≡ R
+row-of r R g v = let w = view-some r g in cc
 
 view-plain : (r : RowData) → ltb 0 (r .group) ≡ true → r .line .kind ≡ 0 → rowView r ≡ some (plainRow r)
 unfolding rowView rowData given

@@ -3,7 +3,7 @@
 use mathlib.Core.Path.{_≡_, refl, sym, ap, _∙_}
 use mathlib.Core.Logic.{_⊎_, inl, inr, ⊎-elim}
 use mathlib.Core.Bool.{Bool, true, false, not, cond}
-use mathlib.Core.List.{map}
+use mathlib.Core.List.{[], _∷_, map}
 use Prim.Native.Nat.{ℕ, zero, suc, _≤_, _<_}
 use native.Mathlib.Omega.{arith}
 use lib.Dec.{eqb, leb, ltb}
@@ -21,6 +21,8 @@ use Rattle.lines.specs.declared.LineData.{LineData}
 use Rattle.lines.specs.Lines.{names, present, lineOf, lineShape, lineGood}
 use Rattle.forms.specs.declared.RowData.{RowData}
 use Rattle.forms.specs.Forms.{listed, plainRow, rowData, pairGroup, tupleGroup, plainShape, plainGood, rowGood}
+use Rattle.forms.proofs.RowForms.{rowAs, pair-case, pair-some}
+use Rattle.forms.proofs.Views.{row-of, view-pair}
 use Rattle.judge.specs.Judge.{lowNumber, lowName, lowNames, lowNumbers, lowSize, lowVariable, rowLimits}
 use Rattle.judge.proofs.Tests.{all-cat, all-and, all-agree, all-concat, none-reaches}
 use Rattle.judge.proofs.Names.{name-low, fields-fit, Parts, parts, names-test}
@@ -216,6 +218,22 @@ pub limits-are : {r : RowData} → Good r → rowLimits r ≡ inLimits (rowData 
 unfolding rowLimits rowData lowSize lowVariable either imp _&_
 limits-are {r} (q-row e k l P o) = rw (e, lt-ltb 0 (r .line .kind) k) (q-limits (r .own) P o)
 limits-are {r} (plain-row e k P) = rw (le-ltb 0 (r .line .kind) (omega arith)) (plain-limits r e P)
+
+-- an R or an E row: it has its two sites, and nothing else that is limited
+module _ (r : RowData) (G : rowGood r ≡ true) (p : pairGroup (r .group) ≡ true) where
+  pair-is : rowData r ≡ rowAs (r .group) (r .size) [] [] (r .line .target .number ∷ r .line .fields .a .number ∷ []) [] (r .rights)
+  pair-is = let g = ltb-true 0 (r .group) (pair-some (r .group) p) in row-of r _ (λ z. omega arith) (view-pair r G p .0)
+
+  pub pair-sites : (n : ℕ) → ltb (r .line .target .number) n & ltb (r .line .fields .a .number) n ≡ not (absent n (rowData r))
+  unfolding absent all
+  pair-sites n = rw (pair-is, none-reaches n (r .line .target .number ∷ r .line .fields .a .number ∷ []), and-true)
+
+  no-size : eqb (r .group) groupN ≡ false
+  no-size = ⊎-elim (λ e. rw e) (λ e. rw e) (pair-case (r .group) p)
+
+  pub pair-limits : not (absent siteLimit (rowData r)) ≡ inLimits (rowData r)
+  unfolding inLimits all imp _&_
+  pair-limits = sym (pair-sites siteLimit) ∙ rw (pair-is, no-size, and-true (ltb (r .line .fields .a .number) siteLimit), and-true)
 
 -- the group of a row
 pub group-is : (r : RowData) → rowGood r ≡ true → 0 < r .group → rowData r .group ≡ r .group

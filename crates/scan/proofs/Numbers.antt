@@ -1,20 +1,22 @@
 -- The tests of a row in their order.
 -- Assumes nothing.
 use mathlib.Core.Path.{_≡_, refl, sym}
+use mathlib.Core.Logic.{⊎-elim}
 use mathlib.Core.Bool.{Bool, true, false, not, cond, false≢true}
 use mathlib.Core.List.{List}
 use Prim.Native.Nat.{ℕ, zero, suc, _+_, _<_}
 use native.Mathlib.Omega.{arith}
 use lib.Dec.{eqb}
 use lib.ListN.{length}
-use borrow.Author.Tests.{eq-eqb, ne-eqb}
+use borrow.Author.Tests.{eq-eqb, ne-eqb, ltb-true}
 use Rattle.sets.specs.Lists.{_&_, either}
 use Rattle.klaim.specs.Process.{template, clash}
 use Rattle.sets.proofs.Lists.{not-no, not-yes}
 use Rattle.klaim.specs.Rows.{Row, groupQ}
 use Rattle.klaim.specs.Reader.{Text, inLimits, ofGroup, full, over, headed, own, inOrder, repeated, misplaced, siteCount, absent, bad, good, judge}
 use Rattle.forms.specs.declared.RowData.{RowData}
-use Rattle.forms.specs.Forms.{rowData, rowView, rowGood, tupleGroup}
+use Rattle.forms.specs.Forms.{rowData, rowView, rowGood, pairGroup, tupleGroup}
+use Rattle.forms.proofs.RowForms.{pair-case, pair-some}
 use Rattle.forms.proofs.Views.{view-none, view-some}
 use Rattle.judge.proofs.Limits.{Good, q-row, plain-row, good as good-row, group-is}
 use Rattle.binders.proofs.Binders.{clash-none}
@@ -22,7 +24,7 @@ use Rattle.scan.specs.declared.Tally.{Tally}
 use Rattle.scan.specs.Tallies.{more, countedOf}
 use Rattle.scan.specs.Numbers.{earlyOf, lateOf, numberOf, judgedBy}
 
-either-true : (a : Bool) → either a true ≡ true
+pub either-true : (a : Bool) → either a true ≡ true
 unfolding either
 either-true true = refl
 either-true false = refl
@@ -65,21 +67,9 @@ module _ (r : RowData) where
   unfolding earlyOf
   early-form full placed e = rw e
 
-  pub early-full : {full : Bool} (placed : Bool) → (r .group ≡ 0 → ⊥) → full ≡ true → 2 ≡ earlyOf r full placed
+  pub early-formed : (full placed : Bool) → (r .group ≡ 0 → ⊥) → {low : Bool} → low ≡ inLimits (rowData r) → cond (either (not low) full) 2 (cond placed 0 3) ≡ earlyOf r full placed
   unfolding earlyOf
-  early-full placed h f = rw (ne-eqb (r .group) 0 h, f, either-true (not (inLimits (rowData r))))
-
-  pub early-over : (full placed : Bool) → (r .group ≡ 0 → ⊥) → inLimits (rowData r) ≡ false → 2 ≡ earlyOf r full placed
-  unfolding earlyOf either
-  early-over full placed h l = rw (ne-eqb (r .group) 0 h, l)
-
-  pub early-placed : {full placed : Bool} → (r .group ≡ 0 → ⊥) → full ≡ false → inLimits (rowData r) ≡ true → placed ≡ true → 0 ≡ earlyOf r full placed
-  unfolding earlyOf either
-  early-placed h f l p = rw (ne-eqb (r .group) 0 h, f, l, p)
-
-  pub early-misplaced : {full placed : Bool} → (r .group ≡ 0 → ⊥) → full ≡ false → inLimits (rowData r) ≡ true → placed ≡ false → 3 ≡ earlyOf r full placed
-  unfolding earlyOf either
-  early-misplaced h f l p = rw (ne-eqb (r .group) 0 h, f, l, p)
+  early-formed full placed h e = rw (ne-eqb (r .group) 0 h, e)
 
   -- what is known of a row that 1, 2 and the order let through
   pub early-passed : {full placed : Bool} → earlyOf r full placed ≡ 0 → (0 < r .group) × (inLimits (rowData r) ≡ true) × (full ≡ false) × (placed ≡ true)
@@ -107,12 +97,23 @@ module _ (n : ℕ) (r : Row) where
   late-none h c = rw (not-yes (absent n r) (sym h), sym c)
 
 -- a row that is no Q row has no template
-pub late-plain : (n : ℕ) (r : RowData) → rowGood r ≡ true → 0 < r .group → (r .group ≡ groupQ → ⊥) → true ≡ not (absent n (rowData r)) → 0 ≡ lateOf n (rowData r)
+late-plain : (n : ℕ) (r : RowData) → rowGood r ≡ true → 0 < r .group → (r .group ≡ groupQ → ⊥) → true ≡ not (absent n (rowData r)) → 0 ≡ lateOf n (rowData r)
 late-plain n r G h away a = late-none n (rowData r) a (sym (go (good-row r G h)))
   where
     go : Good r → clash (template (rowData r .process)) ≡ false
     go (q-row e k l P o) = absurd (away e)
     go (plain-row e k P) = clash-none (plain-row e k P) (λ z. omega arith) (λ z. omega arith)
+
+pub late-sited : (n : ℕ) (r : RowData) → rowGood r ≡ true → 0 < r .group → (r .group ≡ groupQ → ⊥) → (low : Bool) → low ≡ not (absent n (rowData r)) → cond low 0 4 ≡ lateOf n (rowData r)
+late-sited n r G h away true e = late-plain n r G h away e
+late-sited n r G h away false e = late-absent n (rowData r) e
+
+-- an R or an E row has a form, and is no Q row
+pub pair-formed : (g : ℕ) → pairGroup g ≡ true → 0 < g
+pair-formed g p = ltb-true 0 g (pair-some g p)
+
+pub pair-no-process : (g : ℕ) → pairGroup g ≡ true → g ≡ groupQ → ⊥
+pair-no-process g p e = ⊎-elim (λ q. omega arith) (λ q. omega arith) (pair-case g p)
 
 -- a row that is in none of the counts
 pub counted-rest : (r : RowData) (t : Tally) → (r .group ≡ 1 → ⊥) → (r .group ≡ 4 → ⊥) → (r .group ≡ 8 → ⊥) → (r .group ≡ 5 → ⊥) → (r .group ≡ 6 → ⊥) → record { size = t .size; tuples = t .tuples; roots = t .roots; lines = t .lines; last = r .group; turn = t .turn; rows = t .rows + 1; number = t .number } ≡ countedOf r t

@@ -1,14 +1,14 @@
 //! The rows of a text, one after the other: the row at a place, and the tests of it that need no table.
 ghost use mathlib.Core.Path.{_≡_};
-ghost use mathlib.Core.Bool.{true};
+ghost use mathlib.Core.Bool.{true, not, cond};
 ghost use mathlib.Core.List.{_∷_};
 ghost use Prim.Native.Nat.{_+_, _<_};
 ghost use lib.Dec.{eqb};
 ghost use lib.ListN.{length};
-ghost use Rattle.sets.specs.Lists.{_&_};
+ghost use Rattle.sets.specs.Lists.{_&_, either};
 ghost use Rattle.klaim.specs.Rows.{newline, groupQ};
 ghost use Rattle.text.specs.Pieces.{endOf};
-ghost use Rattle.forms.specs.Forms.{rowView, rowData, rowGood};
+ghost use Rattle.forms.specs.Forms.{rowView, rowData, rowGood, pairGroup};
 ghost use Rattle.scan.specs.Progress.{rowsLeft};
 ghost use Rattle.scan.specs.Numbers.{earlyOf, lateOf};
 ghost use Rattle.scan.specs.Tallies.{countedOf, startOf};
@@ -76,6 +76,22 @@ pub fn row_at(s: &[u8], at: usize) -> NextRow
     }
 }
 
+// Limits and place, of a row that has a form: 2, 3 or 0.
+fn limited(low: bool, full: bool, placed: bool) -> u8
+    ensures { λ r. ⌜ r ≡ cond (either (not low) full) 2 (cond placed 0 3) ⌝ }
+{
+    if full {
+        return 2;
+    }
+    if low {
+        if placed {
+            return 0;
+        }
+        return 3;
+    }
+    2
+}
+
 // Form, limits and place: 1, 2, 3 or 0.
 pub fn early(row: RowData, full: bool, placed: bool) -> u8
     requires { ⌜ rowGood row ≡ true ⌝ }
@@ -85,16 +101,16 @@ pub fn early(row: RowData, full: bool, placed: bool) -> u8
     if group == 0 {
         return 1;
     }
-    if full {
-        return 2;
-    }
-    if judge::in_limits(row) {
-        if placed {
-            return 0;
-        }
-        return 3;
-    }
-    2
+    limited(judge::in_limits(row), full, placed)
+}
+
+// The same of an R or an E row.
+pub fn early_pair(row: RowData, full: bool, placed: bool) -> u8
+    requires { ⌜ rowGood row ≡ true ⌝ }
+    requires { ⌜ pairGroup (row .group) ≡ true ⌝ }
+    ensures { λ r. ⌜ r ≡ earlyOf row full placed ⌝ }
+{
+    limited(judge::pair_in_limits(row), full, placed)
 }
 
 // Sites and template: 4, 7 or 0.
@@ -112,6 +128,16 @@ pub fn late(row: RowData, n: u16) -> u8
     4
 }
 
+// Sites: 4 or 0.
+fn site_number(low: bool) -> u8
+    ensures { λ r. ⌜ r ≡ cond low 0 4 ⌝ }
+{
+    if low {
+        return 0;
+    }
+    4
+}
+
 // Sites of a row that is no Q row, which has no template: 4 or 0.
 pub fn sited(row: RowData, n: u16) -> u8
     requires { ⌜ rowGood row ≡ true ⌝ }
@@ -119,10 +145,16 @@ pub fn sited(row: RowData, n: u16) -> u8
     requires { ⌜ (row .group ≡ groupQ → ⊥) ⌝ }
     ensures { λ r. ⌜ r ≡ lateOf n (rowData row) ⌝ }
 {
-    if judge::low_sites(row, n) {
-        return 0;
-    }
-    4
+    site_number(judge::low_sites(row, n))
+}
+
+// The same of an R or an E row.
+pub fn sited_pair(row: RowData, n: u16) -> u8
+    requires { ⌜ rowGood row ≡ true ⌝ }
+    requires { ⌜ pairGroup (row .group) ≡ true ⌝ }
+    ensures { λ r. ⌜ r ≡ lateOf n (rowData row) ⌝ }
+{
+    site_number(judge::low_pair(row, n))
 }
 
 // The tally with a row turned away.

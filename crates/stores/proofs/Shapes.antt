@@ -3,7 +3,6 @@
 use mathlib.Core.Path.{_≡_}
 use mathlib.Core.Bool.{true}
 use mathlib.Core.List.{[], _∷_}
-use mathlib.Core.Option.{some}
 use Prim.Native.Nat.{_≤_, _<_}
 use native.Mathlib.Omega.{arith}
 use lib.Dec.{leb, ltb}
@@ -16,9 +15,9 @@ use Rattle.klaim.specs.Reader.{inLimits}
 use Rattle.text.specs.Fields.{sitesTo}
 use Rattle.lines.specs.Lines.{fitAll, lineOf, lineGood}
 use Rattle.forms.specs.declared.RowData.{RowData}
-use Rattle.forms.specs.Forms.{rowData, rowView, pairGroup, tupleGroup, rowGood}
+use Rattle.forms.specs.Forms.{rowData, pairGroup, tupleGroup, rowGood}
 use Rattle.forms.proofs.RowForms.{rowAs, numbers, pair-some, tuple-some}
-use Rattle.forms.proofs.Views.{view-some, view-n, view-pair, view-d, view-tuple, view-l, view-b, view-q}
+use Rattle.forms.proofs.Views.{row-of, view-n, view-pair, view-d, view-tuple, view-l, view-b, view-q}
 
 -- the numbers of a row within limits
 pub record Within (R : Row) : Type 0 where
@@ -34,10 +33,6 @@ within R h =
     let v = and-r _ _ b in
     let s = and-r _ _ v in
     record { boxes-low = and-l _ _ b; vars-low = and-l _ _ v; sites-low = and-l _ _ s; lines-low = and-r _ _ s }
-
--- what the code's form of a row stands for
-row-of : (r : RowData) (R : Row) → (r .group ≡ 0 → ⊥) → rowView r ≡ some R → rowData r ≡ R
-row-of r R g v = let w = view-some r g in cc
 
 -- an N row
 pub record SizeRow (r : RowData) : Type 0 where
