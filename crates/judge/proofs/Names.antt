@@ -42,6 +42,14 @@ first-names p f = go (f .count) refl
         rw (ne-eqb (f .count) 0 (λ z. omega arith), ne-eqb (f .count) 1 (λ z. omega arith), ne-eqb (f .count) 2 (λ z. omega arith), ne-eqb (f .count) 3 (λ z. omega arith), e, take-nil n)
         (ap (λ (b : Bool). p (f .a) & (p (f .b) & (p (f .c) & b))) (sym (and-true (p (f .d)))))
 
+pub names-none : (p : Name → Bool) (f : Four) → f .count ≡ 0 → true ≡ all p (names f)
+unfolding names all
+names-none p f e = rw e
+
+pub names-one : (p : Name → Bool) (f : Four) → f .count ≡ 1 → p (f .a) ≡ all p (names f)
+unfolding names all
+names-one p f e = rw e (sym (and-true (p (f .a))))
+
 -- a name of the kinds up to k, and the fields
 pub up-higher : (j k : ℕ) (m : Name) → j ≤ k → upTo j m ≡ true → upTo k m ≡ true
 unfolding upTo

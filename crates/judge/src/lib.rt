@@ -65,11 +65,18 @@ fn low(name: Name, most: u8, limit: u16) -> bool
     number < limit
 }
 
+// Whether each field is low. Most rows have one or none.
 fn low_fields(f: Four, most: u8, limit: u16) -> bool
     ensures { λ r. ⌜ r ≡ all (lowName most limit) (names f) ⌝ }
 {
     let n = f.count;
+    if n == 0 {
+        return true;
+    }
     let a = low(f.a, most, limit);
+    if n == 1 {
+        return a;
+    }
     let b = low(f.b, most, limit);
     let c = low(f.c, most, limit);
     let d = low(f.d, most, limit);
