@@ -14,6 +14,7 @@ use text::EDGES;
 use text::EVAL;
 use text::IN;
 use text::NIL;
+use text::NO_NAME;
 use text::NO_NUMBER;
 use text::Name;
 use text::OUT;
@@ -85,8 +86,6 @@ pub struct Four {
     pub c: Name,
     pub d: Name,
 }
-
-pub const NO_NAME: Name = Name { kind: 0, number: 0 };
 
 pub const NO_FIELDS: Four = Four {
     count: 0,

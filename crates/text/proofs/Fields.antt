@@ -4,18 +4,19 @@ use mathlib.Core.Path.{_≡_, refl, ap, _∙_}
 use mathlib.Core.Bool.{Bool, true, false, not, false≢true}
 use mathlib.Core.List.{List, [], _∷_}
 use mathlib.Core.Option.{Option, none, some}
-use Prim.Native.Nat.{ℕ, suc, _+_, _*_, _^_, _≤_, _<_, _-_}
-use native.Mathlib.Nat.{not-suc-le-zero, pow-suc, pow-le-pow-right}
+use Prim.Native.Nat.{ℕ, suc, _+_, _*_, _≤_, _<_, _-_}
+use native.Mathlib.Nat.{not-suc-le-zero}
 use native.Mathlib.Numerals.{add-one}
 use native.Mathlib.Omega.{arith}
-use lib.Dec.{eqb}
+use native.Mathlib.Decide.{decLt}
+use lib.Dec.{eqb, ltb}
 use lib.ListN.{length, getD, take, drop, drop-of-length-le}
 use lib.Seq.{drop-cons, take-all}
-use borrow.Author.Tests.{eq-eqb, ne-eqb, le-leb, lt-leb, lt-ltb, leb-true}
+use borrow.Author.Tests.{eq-eqb, ne-eqb, le-leb, lt-leb, lt-ltb, le-ltb, leb-true}
 use Rattle.sets.specs.Lists.{_&_, either, all, same}
-use Rattle.sets.proofs.Lists.{and-false}
+use Rattle.sets.proofs.Lists.{and-l, and-r, and-false}
 use Rattle.klaim.specs.Rows.{given, digit, decimal, number, lettered, bindField, varField, _>>=_}
-use Rattle.text.specs.Fields.{numberOf, shapeOf, digitsField, binderOf}
+use Rattle.text.specs.Fields.{numberOf, shapeOf, valueOf, joinedOf, digitsField, binderOf}
 
 -- tests of two lists for equality
 pub same-long : (a b : List ℕ) → (length a ≡ length b → ⊥) → same a b ≡ false
@@ -79,15 +80,9 @@ pub number-digits : (f : List ℕ) → shapeOf f ≡ true → number f ≡ digit
 unfolding number shapeOf digitsField
 number-digits f h = all-good _ _ (all digit f) _ _ h
 
-short-of : (a b e : Bool) → a & b & e ≡ true → b ≡ true
-unfolding _&_
-short-of true true e h = refl
-short-of true false e h = h
-short-of false b e h = absurd (false≢true h)
-
-pub shape-short : (f : List ℕ) → shapeOf f ≡ true → length f ≤ 3
+pub shape-short : (f : List ℕ) → shapeOf f ≡ true → (1 ≤ length f) × (length f ≤ 3)
 unfolding shapeOf
-shape-short f h = leb-true _ _ (short-of _ _ _ h)
+shape-short f h = (leb-true _ _ (and-l _ _ h), leb-true _ _ (and-l _ _ (and-r _ _ h)))
 
 -- a scalar that stands for a number, and the one that stands for none
 pub number-is : (n : ℕ) → n < 1000 → numberOf n ≡ some n
@@ -98,44 +93,99 @@ pub number-no : numberOf 1000 ≡ none
 unfolding numberOf given
 number-no = refl
 
--- the digits that are read: n says the first i
-pub record Reading (f : List ℕ) (n i : ℕ) : Type 0 where
-  pub within : i ≤ length f
-  pub size : n < 10 ^ i
-  pub good : all digit f ≡ all digit (drop i f)
-  pub value : decimal 0 f ≡ decimal n (drop i f)
+-- what a byte says, by whether it is a digit
+value-some : (b : ℕ) → digit b ≡ true → (valueOf b ≡ b - 48) × (48 ≤ b) × (b ≤ 57)
+unfolding valueOf digit
+value-some b e = (rw e, leb-true 48 b (and-l _ _ e), leb-true b 57 (and-r _ _ e))
 
-pub reading-none : (f : List ℕ) → Reading f 0 0
-reading-none f = record { within = omega arith; size = omega arith; good = refl; value = refl }
+value-none : (b : ℕ) → digit b ≡ false → valueOf b ≡ 1000
+unfolding valueOf
+value-none b e = rw e
 
--- up to three digits stay below a thousand
-power : (i k : ℕ) → i ≤ k → 10 ^ i ≤ 10 ^ k
-power i k h = pow-le-pow-right (omega arith) h
+pub value-low : (b : ℕ) {d : ℕ} → d ≡ valueOf b → d < 1000 → d < 10
+value-low b {d} q h = go (digit b) refl
+  where
+    go : (t : Bool) → digit b ≡ t → d < 10
+    go true e = let v = value-some b e in omega (arith, q, v .0, v .2)
+    go false e = absurd (omega (arith, q, value-none b e))
 
-module _ {f : List ℕ} {n i : ℕ} (R : Reading f n i) where
-  pub reading-size : (k : ℕ) → i ≤ k → n < 10 ^ k
-  reading-size k h = omega (arith, R .size, power i k h)
+-- a number with a digit behind it
+module _ (n d : ℕ) where
+  pub joined-some : n < 1000 → d < 1000 → joinedOf n d ≡ 10 * n + d
+  unfolding joinedOf _&_
+  joined-some h k = rw (lt-ltb n 1000 h, lt-ltb d 1000 k)
 
-  pub reading-next : i < length f → 48 ≤ getD f i 0 → getD f i 0 ≤ 57 → Reading f (10 * n + (getD f i 0 - 48)) (i + 1)
-  unfolding all digit decimal _&_
-  reading-next h p q = record {
-    within = omega arith;
-    size = rw (add-one, pow-suc) (omega (arith, R .size));
-    good = R .good ∙ rw (add-one, drop-cons f i 0 h, le-leb 48 _ p, le-leb _ 57 q);
-    value = R .value ∙ rw (add-one, drop-cons f i 0 h);
-  }
+  pub joined-left : 1000 ≤ n → joinedOf n d ≡ 1000
+  unfolding joinedOf _&_
+  joined-left h = rw (le-ltb n 1000 h)
 
-  pub reading-low : i < length f → getD f i 0 < 48 → digitsField f ≡ none
-  unfolding all digit _&_ digitsField given
-  reading-low h p = rw (R .good, drop-cons f i 0 h, lt-leb 48 _ p)
+  pub joined-right : 1000 ≤ d → joinedOf n d ≡ 1000
+  unfolding joinedOf
+  joined-right h = rw (le-ltb d 1000 h, and-false (ltb n 1000))
 
-  pub reading-high : i < length f → 57 < getD f i 0 → digitsField f ≡ none
-  unfolding all digit _&_ digitsField given
-  reading-high h p = rw (R .good, drop-cons f i 0 h, le-leb 48 (getD f i 0) (omega arith), lt-leb _ 57 p)
+-- two digits stay below a hundred
+pub joined-low : (n d : ℕ) {m : ℕ} → m ≡ joinedOf n d → (n < 1000 → n < 10) → (d < 1000 → d < 10) → m < 1000 → m < 100
+joined-low n d {m} q p r h = go (decLt n 1000) (decLt d 1000)
+  where
+    go : Dec (n < 1000) → Dec (d < 1000) → m < 100
+    go (yes a) (yes b) = omega (arith, q, p a, r b, joined-some n d a b)
+    go (yes a) (no b) = absurd (omega (arith, q, joined-right n d (omega arith)))
+    go (no a) b = absurd (omega (arith, q, joined-left n d (omega arith)))
 
-  pub reading-done : length f ≤ i → digitsField f ≡ some n
-  unfolding all decimal digitsField given
-  reading-done h = rw (R .good, R .value, drop-of-length-le f h)
+-- what the digits of a field say
+said : (f : List ℕ) (n : ℕ) → all digit f ≡ true → n < 1000 → n ≡ decimal 0 f → numberOf n ≡ digitsField f
+unfolding digitsField given
+said f n g h e = number-is n h ∙ rw (g, e)
+
+silent : (f : List ℕ) (n : ℕ) → all digit f ≡ false → n ≡ 1000 → numberOf n ≡ digitsField f
+unfolding digitsField given
+silent f n g e = rw (g, e) number-no
+
+pub digits-one : (f : List ℕ) → length f ≡ 1 → numberOf (valueOf (getD f 0 0)) ≡ digitsField f
+unfolding all decimal _&_
+digits-one [] h = absurd (omega arith)
+digits-one (x ∷ y ∷ f) h = absurd (omega arith)
+digits-one (x ∷ []) h = go (digit x) refl
+  where
+    go : (p : Bool) → digit x ≡ p → numberOf (valueOf x) ≡ digitsField (x ∷ [])
+    go true e = let v = value-some x e in said (x ∷ []) (valueOf x) (rw e) (omega (arith, v .0, v .2)) (omega (arith, v .0))
+    go false e = silent (x ∷ []) (valueOf x) (rw e) (value-none x e)
+
+pub digits-two : (f : List ℕ) → length f ≡ 2 → numberOf (joinedOf (valueOf (getD f 0 0)) (valueOf (getD f 1 0))) ≡ digitsField f
+unfolding all decimal _&_
+digits-two [] h = absurd (omega arith)
+digits-two (x ∷ []) h = absurd (omega arith)
+digits-two (x ∷ y ∷ z ∷ f) h = absurd (omega arith)
+digits-two (x ∷ y ∷ []) h = go (digit x) refl (digit y) refl
+  where
+    go : (p : Bool) → digit x ≡ p → (q : Bool) → digit y ≡ q → numberOf (joinedOf (valueOf x) (valueOf y)) ≡ digitsField (x ∷ y ∷ [])
+    go false e q f = silent (x ∷ y ∷ []) _ (rw e) (joined-left (valueOf x) (valueOf y) (omega (arith, value-none x e)))
+    go true e false f = silent (x ∷ y ∷ []) _ (rw (e, f)) (joined-right (valueOf x) (valueOf y) (omega (arith, value-none y f)))
+    go true e true f =
+        let v = value-some x e in
+        let w = value-some y f in
+        let j = joined-some (valueOf x) (valueOf y) (omega (arith, v .0, v .2)) (omega (arith, w .0, w .2)) in
+        said (x ∷ y ∷ []) (joinedOf (valueOf x) (valueOf y)) (rw (e, f)) (omega (arith, j, v .0, v .2, w .0, w .2)) (omega (arith, j, v .0, w .0))
+
+pub digits-three : (f : List ℕ) → 1 ≤ length f → (length f ≡ 1 → ⊥) → (length f ≡ 2 → ⊥) → length f ≤ 3 → numberOf (joinedOf (joinedOf (valueOf (getD f 0 0)) (valueOf (getD f 1 0))) (valueOf (getD f 2 0))) ≡ digitsField f
+unfolding all decimal _&_
+digits-three [] h i j k = absurd (omega arith)
+digits-three (x ∷ []) h i j k = absurd (i refl)
+digits-three (x ∷ y ∷ []) h i j k = absurd (j refl)
+digits-three (x ∷ y ∷ z ∷ a ∷ f) h i j k = absurd (omega arith)
+digits-three (x ∷ y ∷ z ∷ []) h i j k = go (digit x) refl (digit y) refl (digit z) refl
+  where
+    go : (p : Bool) → digit x ≡ p → (q : Bool) → digit y ≡ q → (r : Bool) → digit z ≡ r → numberOf (joinedOf (joinedOf (valueOf x) (valueOf y)) (valueOf z)) ≡ digitsField (x ∷ y ∷ z ∷ [])
+    go false e q f r g = silent (x ∷ y ∷ z ∷ []) _ (rw e) (joined-left (joinedOf (valueOf x) (valueOf y)) (valueOf z) (omega (arith, joined-left (valueOf x) (valueOf y) (omega (arith, value-none x e)))))
+    go true e false f r g = silent (x ∷ y ∷ z ∷ []) _ (rw (e, f)) (joined-left (joinedOf (valueOf x) (valueOf y)) (valueOf z) (omega (arith, joined-right (valueOf x) (valueOf y) (omega (arith, value-none y f)))))
+    go true e true f false g = silent (x ∷ y ∷ z ∷ []) _ (rw (e, f, g)) (joined-right (joinedOf (valueOf x) (valueOf y)) (valueOf z) (omega (arith, value-none z g)))
+    go true e true f true g =
+        let v = value-some x e in
+        let w = value-some y f in
+        let u = value-some z g in
+        let j = joined-some (valueOf x) (valueOf y) (omega (arith, v .0, v .2)) (omega (arith, w .0, w .2)) in
+        let k = joined-some (joinedOf (valueOf x) (valueOf y)) (valueOf z) (omega (arith, j, v .0, v .2, w .0, w .2)) (omega (arith, u .0, u .2)) in
+        said (x ∷ y ∷ z ∷ []) (joinedOf (joinedOf (valueOf x) (valueOf y)) (valueOf z)) (rw (e, f, g)) (omega (arith, k, j, v .0, v .2, w .0, w .2, u .0, u .2)) (omega (arith, k, j, v .0, w .0, u .0))
 
 -- a field by its first byte
 pub letter-hit : (x : ℕ) (f : List ℕ) → 0 < length f → getD f 0 0 ≡ x → lettered x f ≡ number (take (length f - 1) (drop 1 f))

@@ -87,6 +87,12 @@ module _ (f : List ℕ) (b s u : ℕ) (here : Bool) (B : binderOf b ≡ bindFiel
   unfolding pickName
   named-is e = let n = named-others (ltb b noNumber) refl in rw e (record { site = n .0; toward = n .1; loc-is = n .2; slot-is = named-slot })
 
+-- an empty field names nothing
+pub named-none : (f : List ℕ) → length f ≡ 0 → Named f (nameAs 0 0)
+unfolding given upTo _&_ siteField towards locField slotField bindField varField isSelf lettered same text otherwise _>>=_
+named-none [] h = record { site = refl; toward = refl; loc-is = refl; slot-is = refl }
+named-none (b ∷ f) h = absurd (omega arith)
+
 -- the place of a word
 pub placed-next : (n : ℕ) (w : String) (ws : List String) (f : List ℕ) → same f (text w) ≡ false → placeIn n (w ∷ ws) f ≡ placeIn (suc n) ws f
 unfolding placeIn

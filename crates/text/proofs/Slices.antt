@@ -1,7 +1,7 @@
 -- Laws of a row cut into its fields where it stands in a text.
 -- Assumes nothing.
 use mathlib.Core.Path.{_≡_, refl, sym, ap, subst, _∙_}
-use mathlib.Core.Logic.{_⊎_, inl, inr}
+use mathlib.Core.Logic.{_⊎_, inl, inr, ⊎-elim}
 use mathlib.Core.Bool.{Bool, true, false, false≢true}
 use mathlib.Core.List.{List, [], _∷_}
 use Prim.Native.Nat.{ℕ, zero, suc, _+_, _≤_, _<_, _-_}
@@ -12,8 +12,8 @@ use lib.Dec.{eqb}
 use lib.ListN.{length, getD, take, drop, set, length-drop}
 use lib.Seq.{length-take-le, take-nil, drop-drop}
 use borrow.Author.Tests.{lt-ltb, eq-eqb, ltb-true, eqb-true}
-use Rattle.sets.specs.Lists.{_&_}
-use Rattle.sets.proofs.Lists.{and-l, and-r}
+use Rattle.sets.specs.Lists.{_&_, either}
+use Rattle.sets.proofs.Lists.{and-l, and-r, or-case, neither-l, neither-r, eqb-eq, eqb-i}
 use Rattle.klaim.specs.Rows.{split, piecesAfter, at, comma, newline}
 use Rattle.text.specs.Pieces.{endOf, edgeLimit, Cut, Mark, commaAt}
 use Rattle.text.proofs.Pieces.{some-piece, grown, piece-hit, piece-miss, piece-end, end-le, Cutting, cutting-none, cutting-more, cutting-done}
@@ -138,6 +138,9 @@ module _ {s : List ℕ} {from : ℕ} (h : from ≤ length s) where
   pub slicing-done : {edges : List ℕ} {n end : ℕ} → Slicing s from edges n end → end ≡ endOf newline s from → Cut (take (end - from) (drop from s)) edges n
   slicing-done {edges} {n} {end} S e = subst (λ (m : ℕ). Cut (take (m - from) (drop from s)) edges n) (sym e) (cutting-done (S .cutting) (omega (arith, row-long s from h, e, S .low)))
 
+unlike : {m n : ℕ} → eqb m n ≡ false → m ≡ n → ⊥
+unlike e q = false≢true (sym e ∙ eqb-i q)
+
 -- the steps of a search for a comma or a newline, from `from` to i
 pub record Looking (s : List ℕ) (from i : ℕ) : Type 0 where
   pub low : from ≤ i
@@ -145,17 +148,14 @@ pub record Looking (s : List ℕ) (from i : ℕ) : Type 0 where
   pub field : endOf comma s from ≡ endOf comma s i
 
 module _ {s : List ℕ} {from i : ℕ} (L : Looking s from i) where
-  pub looking-comma : i < length s → getD s i 0 ≡ comma → Mark s from i
-  looking-comma h e = record { low = L .low; row = L .row; field = L .field; stop = inl (omega (arith, piece-hit comma s i h e)) }
-
-  pub looking-newline : i < length s → getD s i 0 ≡ newline → Mark s from i
-  looking-newline h e = record { low = L .low; row = L .row; field = L .field; stop = inr (omega (arith, piece-hit newline s i h e)) }
+  pub looking-stop : i < length s → either (eqb (getD s i 0) comma) (eqb (getD s i 0) newline) ≡ true → Mark s from i
+  looking-stop h e = record { low = L .low; row = L .row; field = L .field; stop = ⊎-elim (λ p. inl (omega (arith, piece-hit comma s i h (eqb-eq p)))) (λ p. inr (omega (arith, piece-hit newline s i h (eqb-eq p)))) (or-case _ _ e) }
 
   pub looking-end : length s ≤ i → Mark s from i
   looking-end h = record { low = L .low; row = L .row; field = L .field; stop = inr (omega (arith, piece-end newline s i h)) }
 
-  pub looking-more : i < length s → (getD s i 0 ≡ comma → ⊥) → (getD s i 0 ≡ newline → ⊥) → Looking s from (i + 1)
-  looking-more h c n = record { low = omega (arith, L .low); row = omega (arith, L .row, piece-miss newline s i h n); field = omega (arith, L .field, piece-miss comma s i h c) }
+  pub looking-more : i < length s → either (eqb (getD s i 0) comma) (eqb (getD s i 0) newline) ≡ false → Looking s from (i + 1)
+  looking-more h e = record { low = omega (arith, L .low); row = omega (arith, L .row, piece-miss newline s i h (unlike (neither-r _ _ e))); field = omega (arith, L .field, piece-miss comma s i h (unlike (neither-l _ _ e))) }
 
 -- a field ends within the text
 pub mark-in : {s : List ℕ} {from r : ℕ} → from ≤ length s → Mark s from r → r ≤ length s

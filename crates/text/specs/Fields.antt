@@ -4,7 +4,7 @@ use mathlib.Core.Path.{_≡_}
 use mathlib.Core.Bool.{Bool, not, cond}
 use mathlib.Core.List.{List, [], _∷_}
 use mathlib.Core.Option.{Option, some}
-use Prim.Native.Nat.{ℕ, suc}
+use Prim.Native.Nat.{ℕ, suc, _+_, _-_, _*_}
 use Prim.Native.Char.{code}
 use Prim.Native.String.{String}
 use lib.Dec.{eqb, leb, ltb}
@@ -28,6 +28,13 @@ numberOf n = given (ltb n noNumber) (some n)
 -- the length and the first digit of a number
 unfoldable pub shapeOf : List ℕ → Bool
 shapeOf f = leb 1 (length f) & leb (length f) 3 & either (eqb (length f) 1) (not (eqb (getD f 0 0) (code "0")))
+
+-- the digit that a byte says, and a number with a digit behind it; each may be none
+unfoldable pub valueOf : ℕ → ℕ
+valueOf b = cond (digit b) (b - code "0") noNumber
+
+unfoldable pub joinedOf : ℕ → ℕ → ℕ
+joinedOf n d = cond (ltb n noNumber & ltb d noNumber) (10 * n + d) noNumber
 
 -- what the digits of a number say
 unfoldable pub digitsField : List ℕ → Option ℕ

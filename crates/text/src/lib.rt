@@ -3,10 +3,11 @@ ghost use mathlib.Core.Path.{_≡_};
 ghost use mathlib.Core.List.{[], _∷_};
 ghost use Prim.Native.Nat.{_+_, _-_, _<_, _≤_};
 ghost use lib.ListN.{length, set, take, drop};
-ghost use Rattle.sets.specs.Lists.{same as sameBytes};
+ghost use lib.Dec.{eqb};
+ghost use Rattle.sets.specs.Lists.{either, same as sameBytes};
 ghost use Rattle.klaim.specs.Rows.{split, comma, newline, at, number as numberField, lettered as letteredField, siteField, varField, isSelf, bindField, rightsField};
 ghost use Rattle.text.specs.Pieces.{endOf, edgeLimit, Cut, Mark, commaAt};
-ghost use Rattle.text.specs.Fields.{numberOf, shapeOf, digitsField, rightsOf, hitAt, binderOf, pickName, Named, letterOf, wordOf};
+ghost use Rattle.text.specs.Fields.{numberOf, shapeOf, valueOf, joinedOf, digitsField, rightsOf, hitAt, binderOf, pickName, Named, letterOf, wordOf};
 
 const NEWLINE: u8 = 10;
 
@@ -39,16 +40,26 @@ fn keep(edges: &mut [usize; EDGES], k: usize, edge: usize)
     }
 }
 
+// Whether a byte ends a field. Letters and digits stand behind the comma: one test turns them away.
+fn ends(b: u8) -> bool
+    ensures { λ r. ⌜ r ≡ either (eqb b comma) (eqb b newline) ⌝ }
+{
+    if COMMA < b {
+        return false;
+    }
+    if b == COMMA {
+        return true;
+    }
+    b == NEWLINE
+}
+
 // Where the field that begins at `from` ends: at the next comma or newline, or at the end of the bytes.
 fn field_end(s: &[u8], from: usize) -> usize
     ensures { λ r. ⌜ Mark (now (s .entry)) from r ⌝ }
 {
     let mut i = from;
     while i < s.len() {
-        if s[i] == COMMA {
-            return i;
-        }
-        if s[i] == NEWLINE {
+        if ends(s[i]) {
             return i;
         }
         i += 1;
@@ -143,25 +154,47 @@ fn shaped(f: &[u8]) -> bool
     false
 }
 
-// Up to three digits.
+// The digit that a byte says, no number for any other byte.
+fn digit(b: u8) -> u16
+    ensures { λ r. ⌜ r ≡ valueOf b ⌝ }
+{
+    if b < b'0' {
+        return NO_NUMBER;
+    }
+    if b'9' < b {
+        return NO_NUMBER;
+    }
+    (b - b'0') as u16
+}
+
+// A number of up to two digits with a digit behind it, no number where one of them is none.
+fn joined(n: u16, d: u16) -> u16
+    requires { ⌜ (n < 1000 → n < 100) × (d < 1000 → d < 10) ⌝ }
+    ensures { λ r. ⌜ r ≡ joinedOf n d ⌝ }
+{
+    if NO_NUMBER <= n {
+        return NO_NUMBER;
+    }
+    if NO_NUMBER <= d {
+        return NO_NUMBER;
+    }
+    10 * n + d
+}
+
+// One to three digits.
 fn digits(f: &[u8]) -> u16
-    requires { ⌜ length (now f) ≤ 3 ⌝ }
+    requires { ⌜ (1 ≤ length (now f)) × (length (now f) ≤ 3) ⌝ }
     ensures { λ r. ⌜ numberOf r ≡ digitsField (now (f .entry)) ⌝ }
 {
-    let mut n: u16 = 0;
-    let mut i = 0;
-    while i < f.len() {
-        let b = f[i];
-        if b < b'0' {
-            return NO_NUMBER;
-        }
-        if b'9' < b {
-            return NO_NUMBER;
-        }
-        n = 10 * n + (b - b'0') as u16;
-        i += 1;
+    let one = digit(f[0]);
+    if f.len() == 1 {
+        return one;
     }
-    n
+    let two = joined(one, digit(f[1]));
+    if f.len() == 2 {
+        return two;
+    }
+    joined(two, digit(f[2]))
 }
 
 pub fn number(f: &[u8]) -> u16
@@ -301,6 +334,11 @@ pub const VARIABLE: u8 = 3;
 
 pub const BINDER: u8 = 4;
 
+pub const NO_NAME: Name = Name {
+    kind: NOTHING,
+    number: 0,
+};
+
 fn pick_name(binder: u16, site: u16, here: bool, variable: u16) -> Name
     ensures { λ r. ⌜ r ≡ pickName binder site here variable ⌝ }
 {
@@ -328,15 +366,16 @@ fn pick_name(binder: u16, site: u16, here: bool, variable: u16) -> Name
             number: variable,
         };
     }
-    Name {
-        kind: NOTHING,
-        number: 0,
-    }
+    NO_NAME
 }
 
+// What a field names. A field that a row does not have is empty.
 pub fn named(f: &[u8]) -> Name
     ensures { λ r. ⌜ Named (now (f .entry)) r ⌝ }
 {
+    if f.len() == 0 {
+        return NO_NAME;
+    }
     pick_name(binder(f), site(f), is_self(f), variable(f))
 }
 

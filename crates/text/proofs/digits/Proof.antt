@@ -1,67 +1,59 @@
--- The invariant: n says the digits passed.
--- Assumes nothing.
-use Prim.Native.Nat.{_-_}
-use mathlib.Core.Path.{sym, _∙_}
 use native.Mathlib.Omega.{arith}
-use lib.ListN.{length}
 use borrow.Author.Needs.{needs}
-use Rattle.text.proofs.Fields.{number-is, number-no, Reading, reading-none, reading-size, reading-next, reading-low, reading-high, reading-done}
+use Rattle.text.proofs.Fields.{value-low, joined-low, digits-one, digits-two, digits-three}
 use Rattle.text.proofs.digits.Statement.{statement}
 use Rattle.text.proofs.digits.Tie as tie
 
-abbrev Inv-loop : tie.InvT-loop
-Inv-loop f n₀ i₀ n i = Reading f n i
+shared-slice-read-digit : tie.Need-shared-slice-read-digit
+shared-slice-read-digit c = search needs
 
-abbrev μ-loop : tie.MeasureT-loop
-μ-loop f n₀ i₀ n i = length f - i
+digit-requires : tie.Need-digit-requires
+digit-requires c κs = search needs
 
-loop-holds : tie.Need-loop-holds Inv-loop μ-loop
-loop-holds c = reading-none _
+returns : tie.Need-returns
+returns c = rw (c .before .digit .ensures) (digits-one _ (c .if1 .taken))
 
-shared-slice-read-b : tie.Need-shared-slice-read-b Inv-loop μ-loop
-shared-slice-read-b c = search needs
+shared-slice-read-digit-2 : tie.Need-shared-slice-read-digit-2
+shared-slice-read-digit-2 c = search needs
 
-returns : tie.Need-returns Inv-loop μ-loop
-returns c = number-no ∙ sym (reading-low (c .before .before .before .loop .inv) (c .before .before .loop-test .taken) (c .if1 .taken))
+digit-requires-2 : tie.Need-digit-requires-2
+digit-requires-2 c κs = search needs
 
-returns-2 : tie.Need-returns-2 Inv-loop μ-loop
-returns-2 c = number-no ∙ sym (reading-high (c .before .before .before .before .loop .inv) (c .before .before .before .loop-test .taken) (c .if2 .taken))
+joined-requires : tie.Need-joined-requires
+joined-requires c κs = (λ h. omega (arith, value-low _ (c .before .before .before .digit .ensures) h), value-low _ (c .digit2 .ensures))
 
-mul-n : tie.Need-mul-n Inv-loop μ-loop
-mul-n c = omega (arith, reading-size (c .before .before .before .before .loop .inv) 2 (omega arith))
+returns-2 : tie.Need-returns-2
+returns-2 c = rw (c .before .joined .ensures, c .before .before .digit2 .ensures, c .before .before .before .before .before .digit .ensures) (digits-two _ (c .if2 .taken))
 
-cast-n : tie.Need-cast-n Inv-loop μ-loop
-cast-n c = search needs
+shared-slice-read-digit-3 : tie.Need-shared-slice-read-digit-3
+shared-slice-read-digit-3 c = search needs
 
-add-n : tie.Need-add-n Inv-loop μ-loop
-add-n c = omega (arith, reading-size (c .before .before .before .before .loop .inv) 2 (omega arith))
+digit-requires-3 : tie.Need-digit-requires-3
+digit-requires-3 c κs = search needs
 
-add-i : tie.Need-add-i Inv-loop μ-loop
-add-i c = search needs
+joined-requires-2 : tie.Need-joined-requires-2
+joined-requires-2 c κs =
+    let b = c .before .before .before .before in
+    (joined-low _ _ (c .before .before .before .joined .ensures) (value-low _ (b .before .before .before .digit .ensures)) (value-low _ (b .digit2 .ensures)), value-low _ (c .digit3 .ensures))
 
-loop-less : tie.Need-loop-less Inv-loop μ-loop
-loop-less c = search needs
-
-loop-again : tie.Need-loop-again Inv-loop μ-loop
-loop-again c = reading-next (c .before .before .before .before .loop .inv) (c .before .before .before .loop-test .taken) (c .before .if1 .left) (c .if2 .left)
-
-returns-3 : tie.Need-returns-3 Inv-loop μ-loop
-returns-3 c = number-is _ (reading-size (c .before .loop .inv) 3 (omega arith)) ∙ sym (reading-done (c .before .loop .inv) (c .loop-test .left))
+returns-3 : tie.Need-returns-3
+returns-3 c =
+    let b = c .before .before .before .before .before in
+    let s = b .before .before .before .before .before .before in
+    rw (c .joined2 .ensures, c .before .digit3 .ensures, c .before .before .before .before .joined .ensures, b .digit2 .ensures, b .before .before .before .digit .ensures) (digits-three _ (s .pre .0) (b .before .before .if1 .left) (c .before .before .before .if2 .left) (s .pre .1))
 
 pub digits-spec : {M : Type 1} → statement M
 digits-spec =
     tie.close
     (tie.spec
-    Inv-loop
-    μ-loop
-    loop-holds
-    shared-slice-read-b
+    shared-slice-read-digit
+    digit-requires
     returns
+    shared-slice-read-digit-2
+    digit-requires-2
+    joined-requires
     returns-2
-    mul-n
-    cast-n
-    add-n
-    add-i
-    loop-less
-    loop-again
+    shared-slice-read-digit-3
+    digit-requires-3
+    joined-requires-2
     returns-3)

@@ -1,7 +1,10 @@
 use borrow.Author.Needs.{needs}
-use Rattle.text.proofs.Names.{named-is}
+use Rattle.text.proofs.Names.{named-none, named-is}
 use Rattle.text.proofs.named.Statement.{statement}
 use Rattle.text.proofs.named.Tie as tie
+
+returns : tie.Need-returns
+returns c = named-none _ (c .if1 .taken)
 
 binder-requires : tie.Need-binder-requires
 binder-requires c κs = search needs
@@ -18,16 +21,17 @@ variable-requires c κs = search needs
 pick-name-requires : tie.Need-pick-name-requires
 pick-name-requires c κs = search needs
 
-returns : tie.Need-returns
-returns c = named-is _ _ _ _ _ (c .before .before .before .before .binder .ensures) (c .before .before .before .site .ensures) (c .before .before .is-self .ensures) (c .before .variable .ensures) (c .pick-name .ensures)
+returns-2 : tie.Need-returns-2
+returns-2 c = named-is _ _ _ _ _ (c .before .before .before .before .binder .ensures) (c .before .before .before .site .ensures) (c .before .before .is-self .ensures) (c .before .variable .ensures) (c .pick-name .ensures)
 
 pub named-spec : {M : Type 1} → statement M
 named-spec =
     tie.close
     (tie.spec
+    returns
     binder-requires
     site-requires
     is-self-requires
     variable-requires
     pick-name-requires
-    returns)
+    returns-2)
