@@ -13,6 +13,7 @@ ghost use Rattle.klaim.specs.State as Spec;
 ghost use Rattle.klaim.specs.Engine.{plan as planOf, stop as stopped, quiet, act, after, getPlan, acceptPlan, value, bindAll, to as toLine};
 ghost use Rattle.tables.specs.View.{LowLoc, locOf, slotOf, fieldBytes, rowAt, rowsView};
 ghost use Rattle.threads.specs.View.{threadView, rebound};
+ghost use Rattle.tuples.specs.Rows.{Padded};
 ghost use Rattle.plan.specs.Move.{planView, Tables, Plannable, Guests, Admits};
 use flow::UseMap;
 use klaim::Loc;
@@ -44,7 +45,7 @@ pub const TAKEN: u8 = 2;
 fn plan_stop(number: u8, th: Thread) -> Move
     requires { ⌜ 0 < number ⌝ }
     ensures { λ v. ⌜ ((st : Spec.State) (k m : ℕ) → planView st k m v ≡ stopped number) ⌝ }
-    ensures { λ v. ⌜ (0 < v .right) × (v .change ≤ 1) ⌝ }
+    ensures { λ v. ⌜ (0 < v .right) × (v .change ≤ 1) × Padded (v .row) ⌝ }
 {
     Move {
         stop: number,
@@ -62,7 +63,7 @@ fn plan_stop(number: u8, th: Thread) -> Move
 // A silent step: one thread goes on, and one is appended.
 fn plan_quiet(thread: Thread, added: Thread) -> Move
     ensures { λ v. ⌜ ((st : Spec.State) (k m : ℕ) → planView st k m v ≡ quiet (after st k (threadView thread) (Spec.settle (st .lines) (threadView added)) (st .tuples))) ⌝ }
-    ensures { λ v. ⌜ (0 < v .right) × (v .change ≤ 1) ⌝ }
+    ensures { λ v. ⌜ (0 < v .right) × (v .change ≤ 1) × Padded (v .row) ⌝ }
 {
     Move {
         stop: 0,
@@ -80,7 +81,7 @@ fn plan_quiet(thread: Thread, added: Thread) -> Move
 // par: to a; b appended.
 fn plan_par(th: Thread, a: u8, b: u8) -> Move
     ensures { λ v. ⌜ ((st : Spec.State) (k m r : ℕ) → planView st k m v ≡ planOf st k (threadView th) m r (Process.Par a b)) ⌝ }
-    ensures { λ v. ⌜ (0 < v .right) × (v .change ≤ 1) ⌝ }
+    ensures { λ v. ⌜ (0 < v .right) × (v .change ≤ 1) × Padded (v .row) ⌝ }
 {
     let thread = threads::to(th, a);
     let added = threads::to(th, b);
@@ -90,7 +91,7 @@ fn plan_par(th: Thread, a: u8, b: u8) -> Move
 // rep: stays; a appended.
 fn plan_rep(th: Thread, a: u8) -> Move
     ensures { λ v. ⌜ ((st : Spec.State) (k m r : ℕ) → planView st k m v ≡ planOf st k (threadView th) m r (Process.Rep a)) ⌝ }
-    ensures { λ v. ⌜ (0 < v .right) × (v .change ≤ 1) ⌝ }
+    ensures { λ v. ⌜ (0 < v .right) × (v .change ≤ 1) × Padded (v .row) ⌝ }
 {
     let added = threads::to(th, a);
     plan_quiet(th, added)
@@ -100,7 +101,7 @@ fn plan_rep(th: Thread, a: u8) -> Move
 fn plan_out(lines: &[u8; 2560], th: Thread, a: u8, target: Loc, count: u8) -> Move
     requires { ⌜ (count ≤ 4) × (length (now lines) ≡ 2560) × LowLoc target ⌝ }
     ensures { λ v. ⌜ ((st : Spec.State) (k m r : ℕ) → planView st k m v ≡ planOf st k (threadView th) m r (Process.Out a target (map locOf (take count (fieldBytes (now (lines .entry)) (th .line)))))) ⌝ }
-    ensures { λ v. ⌜ (0 < v .right) × (v .change ≤ 1) ⌝ }
+    ensures { λ v. ⌜ (0 < v .right) × (v .change ≤ 1) × Padded (v .row) ⌝ }
 {
     let q = th.line;
     let t = threads::value(th, target);
@@ -123,7 +124,7 @@ fn plan_out(lines: &[u8; 2560], th: Thread, a: u8, target: Loc, count: u8) -> Mo
 fn plan_eval(boxes: &[u8; 1056], th: Thread, a: u8, target: Loc, b: u8, d: u8) -> Move
     requires { ⌜ LowLoc target × (d < 32) ⌝ }
     ensures { λ v. ⌜ ((st : Spec.State) (k m r : ℕ) → st .net .boxes ≡ now (boxes .entry) → planView st k m v ≡ planOf st k (threadView th) m r (Process.Eval a target b d)) ⌝ }
-    ensures { λ v. ⌜ (0 < v .right) × (v .change ≤ 1) ⌝ }
+    ensures { λ v. ⌜ (0 < v .right) × (v .change ≤ 1) × Padded (v .row) ⌝ }
 {
     let l = threads::value(th, target);
     let bound = th.bound;
@@ -157,7 +158,7 @@ fn plan_taken(
 ) -> Move
     requires { ⌜ (m < 256) × (count ≤ 4) × (length (now lines) ≡ 2560) × (length (now tuples) ≡ 1536) × (length (rowAt (now tuples) m) ≡ suc count) × LowLoc target × (eqb change 1 ≡ false) ⌝ }
     ensures { λ v. ⌜ ((st : Spec.State) (k : ℕ) → planView st k m v ≡ act (value (threadView th .site) (threadView th .bindings) target) right (after st k (toLine (rebound (threadView th) (bindAll (Slot.Value target ∷ map slotOf (take count (fieldBytes (now (lines .entry)) (th .line)))) (rowAt (now (tuples .entry)) m) (threadView th .bindings))) a) [] (cond (eqb change 2) (splice m [] (st .tuples)) (st .tuples)))) ⌝ }
-    ensures { λ v. ⌜ v .right ≡ right ⌝ }
+    ensures { λ v. ⌜ (v .right ≡ right) × Padded (v .row) ⌝ }
 {
     let q = th.line;
     let t = threads::value(th, target);
@@ -191,7 +192,7 @@ fn plan_get(
 ) -> Move
     requires { ⌜ (n ≤ 256) × (count ≤ 4) × (length (now lines) ≡ 2560) × (length (now tuples) ≡ 1536) × LowLoc target × (eqb change 1 ≡ false) × (0 < right) ⌝ }
     ensures { λ v. ⌜ ((st : Spec.State) (k : ℕ) → st .tuples ≡ rowsView n (now (tuples .entry)) → planView st k m v ≡ getPlan st k (threadView th) right a target (map slotOf (take count (fieldBytes (now (lines .entry)) (th .line)))) (cond (eqb change 2) (splice m [] (st .tuples)) (st .tuples)) (getElem? (st .tuples) m)) ⌝ }
-    ensures { λ v. ⌜ (0 < v .right) × (v .change ≡ 2 → m < n) ⌝ }
+    ensures { λ v. ⌜ (0 < v .right) × (v .change ≡ 2 → m < n) × Padded (v .row) ⌝ }
 {
     if n <= m {
         return plan_stop(22, th);
@@ -216,7 +217,7 @@ fn plan_in(
 ) -> Move
     requires { ⌜ (n ≤ 256) × (count ≤ 4) × (length (now lines) ≡ 2560) × (length (now tuples) ≡ 1536) × LowLoc target ⌝ }
     ensures { λ v. ⌜ ((st : Spec.State) (k r : ℕ) → st .tuples ≡ rowsView n (now (tuples .entry)) → planView st k m v ≡ planOf st k (threadView th) m r (Process.In a target (map slotOf (take count (fieldBytes (now (lines .entry)) (th .line)))))) ⌝ }
-    ensures { λ v. ⌜ (0 < v .right) × (v .change ≡ 2 → m < n) ⌝ }
+    ensures { λ v. ⌜ (0 < v .right) × (v .change ≡ 2 → m < n) × Padded (v .row) ⌝ }
 {
     plan_get(lines, tuples, n, m, th, a, target, count, UseMap::IN, TAKEN)
 }
@@ -234,7 +235,7 @@ fn plan_read(
 ) -> Move
     requires { ⌜ (n ≤ 256) × (count ≤ 4) × (length (now lines) ≡ 2560) × (length (now tuples) ≡ 1536) × LowLoc target ⌝ }
     ensures { λ v. ⌜ ((st : Spec.State) (k r : ℕ) → st .tuples ≡ rowsView n (now (tuples .entry)) → planView st k m v ≡ planOf st k (threadView th) m r (Process.Read a target (map slotOf (take count (fieldBytes (now (lines .entry)) (th .line)))))) ⌝ }
-    ensures { λ v. ⌜ (0 < v .right) × (v .change ≡ 2 → m < n) ⌝ }
+    ensures { λ v. ⌜ (0 < v .right) × (v .change ≡ 2 → m < n) × Padded (v .row) ⌝ }
 {
     plan_get(
         lines,
@@ -292,7 +293,7 @@ pub fn admitted(
 fn plan_guest(boxes: &[u8; 1056], th: Thread, a: u8, d: u8, q: u8) -> Move
     requires { ⌜ d < 32 ⌝ }
     ensures { λ v. ⌜ ((st : Spec.State) (k m : ℕ) → st .net .boxes ≡ now (boxes .entry) → planView st k m v ≡ acceptPlan st k (threadView th) q a d true true) ⌝ }
-    ensures { λ v. ⌜ (0 < v .right) × (v .change ≤ 1) ⌝ }
+    ensures { λ v. ⌜ (0 < v .right) × (v .change ≤ 1) × Padded (v .row) ⌝ }
 {
     let here = th.site;
     let l = here.0;
@@ -328,7 +329,7 @@ fn plan_accept(
 ) -> Move
     requires { ⌜ Admits (now lines) n (now arrivals) narrivals (now sound) × (th .site .0 < 32) × (d < 32) ⌝ }
     ensures { λ v. ⌜ ((st : Spec.State) (k m : ℕ) → Guests st (th .site .0) (now (lines .entry)) n (now (boxes .entry)) (now (binds .entry)) (now (arrivals .entry)) narrivals (now (sound .entry)) → planView st k m v ≡ planOf st k (threadView th) m r (Process.Accept a d)) ⌝ }
-    ensures { λ v. ⌜ (0 < v .right) × (v .change ≤ 1) ⌝ }
+    ensures { λ v. ⌜ (0 < v .right) × (v .change ≤ 1) × Padded (v .row) ⌝ }
 {
     let i = arrival_at(arrivals, narrivals, r);
     if narrivals <= i {
@@ -360,8 +361,7 @@ pub fn plan<'a>(
 ) -> Move
     requires { ⌜ Plannable (now lines) n (now arrivals) narrivals (now sound) (now tuples) ntuples th ⌝ }
     ensures { λ v. ⌜ ((st : Spec.State) (k : ℕ) → Tables st (th .site .0) (now (lines .entry)) n (now (boxes .entry)) (now (binds .entry)) (now (arrivals .entry)) narrivals (now (sound .entry)) (now (tuples .entry)) ntuples → planView st k m v ≡ planOf st k (threadView th) m r (lineAt (st .lines) (th .line))) ⌝ }
-    ensures { λ v. ⌜ 0 < v .right ⌝ }
-    ensures { λ v. ⌜ (v .change ≡ 2 → m < ntuples) ⌝ }
+    ensures { λ v. ⌜ (0 < v .right) × (v .change ≡ 2 → m < ntuples) × Padded (v .row) ⌝ }
 {
     let q = th.line;
     match tables::action_at(lines, q) {

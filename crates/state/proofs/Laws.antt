@@ -1,12 +1,11 @@
 -- Laws of what a state says of the call behind it.
 -- Assumes nothing.
-use mathlib.Core.Path.{_≡_, sym, _∙_}
+use mathlib.Core.Path.{_≡_}
 use Prim.Native.Nat.{_<_}
 use native.Mathlib.Omega.{arith}
 use borrow.Author.Tests.{ne-eqb}
 use Rattle.klaim.specs.Reader.{refused, gives}
-use Rattle.klaim.specs.Engine.{Event, brought, silent, performed}
-use Rattle.klaim.proofs.Scan.{refused-none}
+use Rattle.klaim.specs.Engine.{brought, silent, performed}
 use Rattle.state.specs.declared.Told.{Told}
 use Rattle.state.specs.View.{eventView, answerView}
 
@@ -14,10 +13,6 @@ use Rattle.state.specs.View.{eventView, answerView}
 pub refused-view : (t : Told) → 0 < t .number → answerView t ≡ refused (t .number) (t .row)
 unfolding answerView
 refused-view t h = rw (ne-eqb (t .number) 0 (omega arith))
-
--- a call that did something was not refused
-pub given-unrefused : (t : Told) {e : Event} → answerView t ≡ gives e → 0 < t .number → ⊥
-given-unrefused t e h = refused-none (sym (refused-view t h) ∙ e)
 
 -- what was done, by its kind
 module _ (t : Told) (e : t .number ≡ 0) where

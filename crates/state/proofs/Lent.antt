@@ -3,10 +3,11 @@
 use mathlib.Core.Path.{_≡_, refl, sym, subst}
 use mathlib.Core.List.{List}
 use Prim.Native.Nat.{ℕ}
+use native.Mathlib.Omega.{arith}
 use Rattle.state.specs.declared.Run.{Run}
 use Rattle.state.specs.declared.State.{State}
 use Rattle.state.specs.Fits.{Fits}
-use Rattle.state.specs.Lent.{Lent, Parts, Handed, goneOn}
+use Rattle.state.specs.Lent.{Lent, Parts, Handed, TableAfter, goneOn}
 
 -- a state has its own tables and parts
 pub own-tables : (st : State) → Lent st (st .net .boxes) (st .estimate .binds) (st .lines) (st .nlines) (st .arrivals) (st .narrivals) (st .sound)
@@ -55,3 +56,19 @@ module _ {homes boxes binds lines : List ℕ} {nlines : ℕ} {arrivals : List �
   -- what is so of it under these names is so of it
   pub of-joined : (P : State → Type 0) → P joined → P st
   of-joined P p = subst P joined-is p
+
+-- a table that is not touched, and one whose count is told otherwise
+pub table-same : {old : List ℕ} {n m k : ℕ} → k ≡ n → TableAfter old n m k old
+table-same e = record {
+  same = λ h. refl;
+  count = λ h. absurd (omega arith);
+  zeros = λ h j a b. absurd (omega arith);
+  above = λ h j a. refl;
+  behind = λ h j a. refl;
+  first = λ h j a. refl;
+  moved = λ h j a b. absurd (omega arith);
+  last = λ h j a. refl;
+}
+
+pub table-by : {old : List ℕ} {n m k x : ℕ} {new : List ℕ} → x ≡ k → TableAfter old n m k new → TableAfter old n m x new
+table-by {old} {n} {m} {k} {x} {new} e = subst (λ (z : ℕ). TableAfter old n m z new) (sym e)

@@ -3,8 +3,9 @@
 -- Assumes nothing.
 use mathlib.Core.Path.{_≡_}
 use mathlib.Core.List.{List}
-use Prim.Native.Nat.{ℕ, _*_, _≤_}
-use lib.ListN.{getD}
+use Prim.Native.Nat.{ℕ, _+_, _*_, _<_, _≤_}
+use lib.ListN.{length, getD}
+use Rattle.tables.specs.View.{rowAt}
 use Rattle.state.specs.declared.Run.{Run}
 use Rattle.state.specs.declared.State.{State}
 use Rattle.state.specs.Fits.{Fits}
@@ -39,9 +40,20 @@ pub record Handed (homes boxes binds lines : List ℕ) (nlines : ℕ) (arrivals 
   pub parts : Parts state homes boxes binds lines nlines arrivals narrivals sound tuples run
   pub fits : Fits state
 
--- a table of n tuples that are now k is as it was behind them
-abbrev pub KeptBehind : ℕ → ℕ → List ℕ → List ℕ → Type 0
-KeptBehind n k old new = (j : ℕ) → 6 * n ≤ j → 6 * k ≤ j → getD new j 0 ≡ getD old j 0
+-- the bytes of a table of n tuples, of which a step has made k
+pub record TableAfter (old : List ℕ) (n m k : ℕ) (new : List ℕ) : Type 0 where
+  -- as many: every byte is as it was
+  pub same : k ≡ n → new ≡ old
+  -- one more: its row says how many sites it has, and has zeros behind them; the rows above it, and what lies behind it, are as they
+  -- were
+  pub count : k ≡ n + 1 → getD new (6 * n) 0 ≡ length (rowAt new n)
+  pub zeros : k ≡ n + 1 → (j : ℕ) → 6 * n + length (rowAt new n) < j → j < 6 * k → getD new j 0 ≡ 0
+  pub above : k ≡ n + 1 → (j : ℕ) → j < 6 * n → getD new j 0 ≡ getD old j 0
+  pub behind : k ≡ n + 1 → (j : ℕ) → 6 * k ≤ j → getD new j 0 ≡ getD old j 0
+  -- tuple m taken out: the rows behind it have moved up; the rows above it, and what lies behind the last, are as they were
+  pub first : n ≡ k + 1 → (j : ℕ) → j < 6 * m → getD new j 0 ≡ getD old j 0
+  pub moved : n ≡ k + 1 → (j : ℕ) → 6 * m ≤ j → j < 6 * k → getD new j 0 ≡ getD old (j + 6) 0
+  pub last : n ≡ k + 1 → (j : ℕ) → 6 * k ≤ j → getD new j 0 ≡ getD old j 0
 
 -- the state that has gone on: all that no step changes, other tuples, and another run
 abbrev pub goneOn : State → List ℕ → Run → State

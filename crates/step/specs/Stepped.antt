@@ -17,6 +17,7 @@ use Rattle.state.specs.View.{stateView, answerView, resultView}
 use Rattle.state.specs.Fits.{Fits}
 use Rattle.threads.specs.declared.Thread.{Thread}
 use Rattle.threads.specs.View.{threadView}
+use Rattle.tuples.specs.Rows.{Padded}
 use Rattle.plan.specs.declared.Move.{Move}
 use Rattle.plan.specs.Move.{planView}
 use Rattle.step.specs.declared.Sizes.{Sizes}
@@ -35,6 +36,7 @@ pub record Measured (ls : List Line) (n t : ℕ) (v : Move) (s : Sizes) : Type 0
 pub record Decided (guarded : Bool) (st : Spec.State) (n t : ℕ) (th : Thread) (m r : ℕ) (d : Decision) : Type 0 where
   pub planIs : (k : ℕ) → planView st k m (d .plan) ≡ Engine.plan st k (threadView th) m r (lineAt (st .lines) (th .line))
   pub taken : d .plan .change ≡ 2 → m < t
+  pub padded : Padded (d .plan .row)
   pub measured : Measured (st .lines) n t (d .plan) (d .sizes)
   pub numberIs : d .number ≡ cond (eqb (d .plan .stop) 0) (cond (not (either (d .plan .silent) (either (not guarded) (Engine.permits (st .net) (threadView th) (d .plan .target) (d .plan .right))))) 26 (cond (leb (d .sizes .threads) 64 & leb (d .sizes .tuples) 256) 0 27)) (d .plan .stop)
 

@@ -13,7 +13,8 @@ ghost use Rattle.tables.specs.View.{linesView, rowsView, rowAt};
 ghost use Rattle.threads.specs.View.{threadView};
 ghost use Rattle.state.specs.declared.State.{State};
 ghost use Rattle.state.specs.Fits.{Fits};
-ghost use Rattle.state.specs.Lent.{Parts, Handed, KeptBehind, goneOn};
+ghost use Rattle.tuples.specs.Rows.{Padded};
+ghost use Rattle.state.specs.Lent.{Parts, Handed, TableAfter, goneOn};
 ghost use Rattle.plan.specs.Move.{Tables, Plannable};
 ghost use Rattle.step.specs.Stepped.{Measured, Decided, Refusing, Stepped};
 use plan::Move;
@@ -159,10 +160,10 @@ fn refusal(stop: u8, lacks: bool, full: bool) -> u8
 
 // The tuples with one more, with tuple m taken out, or as they are.
 fn change_tuples(rows: &mut [u8; 1536], n: usize, m: usize, change: u8, row: [u8; 6])
-    requires { ⌜ (n ≤ 256) × (cond (eqb change 1) (n + 1) (cond (eqb change 2) (n - 1) n) ≤ 256) × (change ≡ 2 → m < n) × (length (now rows) ≡ 1536) ⌝ }
+    requires { ⌜ (n ≤ 256) × (cond (eqb change 1) (n + 1) (cond (eqb change 2) (n - 1) n) ≤ 256) × (change ≡ 2 → m < n) × (length (now rows) ≡ 1536) × Padded row ⌝ }
     ensures { λ r. ⌜ rowsView (cond (eqb change 1) (n + 1) (cond (eqb change 2) (n - 1) n)) (now (rows .exit)) ≡ cond (eqb change 1) (rowsView n (now (rows .entry)) ++ (rowAt row 0 ∷ [])) (cond (eqb change 2) (splice m [] (rowsView n (now (rows .entry)))) (rowsView n (now (rows .entry)))) ⌝ }
     ensures { λ r. ⌜ length (now (rows .exit)) ≡ 1536 ⌝ }
-    ensures { λ r. ⌜ KeptBehind n (cond (eqb change 1) (n + 1) (cond (eqb change 2) (n - 1) n)) (now (rows .entry)) (now (rows .exit)) ⌝ }
+    ensures { λ r. ⌜ TableAfter (now (rows .entry)) n m (cond (eqb change 1) (n + 1) (cond (eqb change 2) (n - 1) n)) (now (rows .exit)) ⌝ }
 {
     if change == plan::APPENDED {
         places::put_tuple(rows, n, row);
@@ -262,8 +263,7 @@ pub fn step<'a, 'b>(
 ) -> Run
     requires { ⌜ Handed (now homes) (now boxes) (now binds) (now lines) nlines (now arrivals) narrivals (now sound) (now tuples) run ⌝ }
     ensures { λ next. ⌜ ((st : State) → Fits st → Parts st (now (homes .entry)) (now (boxes .entry)) (now (binds .entry)) (now (lines .entry)) nlines (now (arrivals .entry)) narrivals (now (sound .entry)) (now (tuples .entry)) run → Stepped guarded st k m r (goneOn st (now (tuples .exit)) next)) ⌝ }
-    ensures { λ next. ⌜ (0 < next .told .number → now (tuples .exit) ≡ now (tuples .entry)) ⌝ }
-    ensures { λ next. ⌜ KeptBehind (run .ntuples) (next .ntuples) (now (tuples .entry)) (now (tuples .exit)) ⌝ }
+    ensures { λ next. ⌜ TableAfter (now (tuples .entry)) (run .ntuples) m (next .ntuples) (now (tuples .exit)) ⌝ }
 {
     let n = run.nthreads;
     if n <= k {

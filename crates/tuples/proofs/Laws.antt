@@ -22,6 +22,7 @@ use Rattle.klaim.specs.State.{Bindings, Thread}
 use Rattle.klaim.specs.Engine.{value, bindAll, agrees}
 use Rattle.tables.specs.View.{LowLoc, LowSlot, slotOf, locOf, fieldBytes, rowAt}
 use Rattle.tables.proofs.Lines.{length-first, field-is}
+use Rattle.tuples.specs.Rows.{Padded}
 use Rattle.tables.proofs.Bytes.{row-long, row-get}
 use Rattle.threads.specs.View.{rebound}
 use Rattle.tuples.specs.Slots.{bindSlot}
@@ -183,9 +184,23 @@ pub record Made (f : ℕ → ℕ) (n v : ℕ) (l : List ℕ) (j : ℕ) : Type 0 
   pub head : getD l 0 0 ≡ n
   pub site : getD l 1 0 ≡ v
   pub fields : (i : ℕ) → i < j → getD l (i + 2) 0 ≡ f i
+  pub zeros : (i : ℕ) → j + 2 ≤ i → getD l i 0 ≡ 0
+
+getD-zeros : (n i : ℕ) → _≡_ {A = ℕ} (getD (replicate n 0) i 0) 0
+getD-zeros zero i = refl
+getD-zeros (suc n) zero = refl
+getD-zeros (suc n) (suc i) = getD-zeros n i
+
+pub zeros-padded : Padded (replicate 6 0)
+zeros-padded = record { few = omega arith; zeros = λ i h. getD-zeros 6 i }
 
 pub made-none : (f : ℕ → ℕ) (n v : ℕ) → Made f n v (set (set (replicate 6 0) 0 n) 1 v) 0
-made-none f n v = record { long = refl; head = refl; site = refl; fields = λ i h. absurd (omega arith) }
+made-none f n v = record { long = refl; head = refl; site = refl; fields = λ i h. absurd (omega arith); zeros = λ i h. none i h }
+  where
+    none : (i : ℕ) → 2 ≤ i → getD (set (set (replicate 6 0) 0 n) 1 v) i 0 ≡ 0
+    none zero h = absurd (omega arith)
+    none (suc zero) h = absurd (omega arith)
+    none (suc (suc i)) h = getD-zeros 4 i
 
 pub made-more : {f : ℕ → ℕ} {n v : ℕ} {l : List ℕ} {j w : ℕ} → Made f n v l j → j < 4 → w ≡ f j → Made f n v (set l (j + 2) w) (j + 1)
 made-more {f} {n} {v} {l} {j} {w} M h e = record {
@@ -193,11 +208,15 @@ made-more {f} {n} {v} {l} {j} {w} M h e = record {
   head = getD-set-other l (j + 2) 0 w 0 (omega arith) ∙ M .head;
   site = getD-set-other l (j + 2) 1 w 0 (omega arith) ∙ M .site;
   fields = λ i t. here i t (ℕ-discrete i j);
+  zeros = λ i t. getD-set-other l (j + 2) i w 0 (omega arith) ∙ M .zeros i (omega arith);
 }
   where
     here : (i : ℕ) → i < j + 1 → Dec (i ≡ j) → getD (set l (j + 2) w) (i + 2) 0 ≡ f i
     here i t (yes q) = rw q (getD-set-same l (j + 2) w 0 (omega (arith, M .long)) ∙ e)
     here i t (no q) = getD-set-other l (j + 2) (i + 2) w 0 (omega arith) ∙ M .fields i (omega arith)
+
+pub made-padded : {f : ℕ → ℕ} {n v : ℕ} {l : List ℕ} {j : ℕ} → Made f n v l j → n ≡ j + 1 → j ≤ 4 → Padded l
+made-padded M e h = record { few = omega (arith, M .head); zeros = λ i t. M .zeros i (omega (arith, M .head)) }
 
 pub made-all : (f : Loc → ℕ) (g : Loc) (bs : List ℕ) (q k : ℕ) {l : List ℕ} → 10 * q + 10 ≤ length bs → k ≤ 4 → Made (λ i. f (locOf (getD (fieldBytes bs q) i 0))) (k + 1) (f g) l k → rowAt l 0 ≡ map f (g ∷ map locOf (take k (fieldBytes bs q)))
 made-all f g bs q k {l} h few M =

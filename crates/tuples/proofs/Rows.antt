@@ -12,6 +12,7 @@ use Rattle.sets.specs.Lists.{splice, table}
 use Rattle.sets.proofs.Tables.{getD-table, length-table}
 use Rattle.tables.specs.View.{rowAt, rowsView}
 use Rattle.tables.proofs.Bytes.{row-same}
+use Rattle.tuples.specs.Rows.{Moved}
 use Rattle.threads.proofs.Splice.{get-some, get-none, splice-long, splice-low, splice-high}
 
 -- how many tuples, and the one at place k
@@ -27,12 +28,6 @@ pub row-none : (n : ℕ) (bs : List ℕ) (k : ℕ) → n ≤ k → getElem? (row
 row-none n bs k h = get-none (rowsView n bs) k (omega (arith, rows-long n bs))
 
 -- a loop that moves the bytes behind a tuple up by six
-pub record Moved (at : ℕ) (l₀ l : List ℕ) (i : ℕ) : Type 0 where
-  pub long : length l ≡ length l₀
-  pub low : (k : ℕ) → k < at → getD l k 0 ≡ getD l₀ k 0
-  pub up : (k : ℕ) → at ≤ k → k < i → getD l k 0 ≡ getD l₀ (k + 6) 0
-  pub rest : (k : ℕ) → i ≤ k → getD l k 0 ≡ getD l₀ k 0
-
 pub moved-none : (at : ℕ) (l : List ℕ) → Moved at l l at
 moved-none at l = record { long = refl; low = λ k h. refl; up = λ k h t. absurd (omega arith); rest = λ k h. refl }
 

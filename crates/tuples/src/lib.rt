@@ -1,15 +1,16 @@
 //! Tuples in their table, and a line's template held against one for a thread.
 ghost use mathlib.Core.Path.{_≡_};
 ghost use mathlib.Core.List.{_∷_, [], map};
-ghost use Prim.Native.Nat.{ℕ, suc, _+_, _-_, _*_, _<_, _≤_};
+ghost use Prim.Native.Nat.{suc, _+_, _-_, _*_, _<_, _≤_};
 ghost use lib.Dec.{eqb};
-ghost use lib.ListN.{length, getD, take};
+ghost use lib.ListN.{length, take};
 ghost use Rattle.sets.specs.Lists.{splice};
 ghost use Rattle.klaim.specs.Analysis.{slotMatch};
 ghost use Rattle.klaim.specs.Engine.{value, bindAll, agrees as agreesOf};
 ghost use Rattle.tables.specs.View.{rowAt, rowsView, fieldBytes, locOf, slotOf, LowLoc, LowSlot};
 ghost use Rattle.threads.specs.View.{threadView, rebound};
 ghost use Rattle.tuples.specs.Slots.{bindSlot};
+ghost use Rattle.tuples.specs.Rows.{Padded, Moved};
 use klaim::Loc;
 use klaim::Slot;
 use threads::Thread;
@@ -95,6 +96,7 @@ pub fn agrees(
 pub fn out_row(lines: &[u8; 2560], q: u8, count: u8, target: Loc, th: Thread) -> [u8; 6]
     requires { ⌜ (count ≤ 4) × (length (now lines) ≡ 2560) × LowLoc target ⌝ }
     ensures { λ r. ⌜ rowAt r 0 ≡ map (value (threadView th .site) (threadView th .bindings)) (target ∷ map locOf (take count (fieldBytes (now (lines .entry)) q))) ⌝ }
+    ensures { λ r. ⌜ Padded r ⌝ }
 {
     let mut r = [0u8; tables::TUPLE];
     r[0] = count + 1;
@@ -111,8 +113,8 @@ pub fn out_row(lines: &[u8; 2560], q: u8, count: u8, target: Loc, th: Thread) ->
 // Tuple m taken out of the n tuples of a table: those behind move up.
 pub fn remove_row(rows: &mut [u8; 1536], n: usize, m: usize)
     requires { ⌜ (m < n) × (n ≤ 256) × (length (now rows) ≡ 1536) ⌝ }
-    ensures { λ r. ⌜ (rowsView (n - 1) (now (rows .exit)) ≡ splice m [] (rowsView n (now (rows .entry)))) × (length (now (rows .exit)) ≡ 1536) ⌝ }
-    ensures { λ r. ⌜ ((j : ℕ) → 6 * (n - 1) ≤ j → getD (now (rows .exit)) j 0 ≡ getD (now (rows .entry)) j 0) ⌝ }
+    ensures { λ r. ⌜ rowsView (n - 1) (now (rows .exit)) ≡ splice m [] (rowsView n (now (rows .entry))) ⌝ }
+    ensures { λ r. ⌜ Moved (6 * m) (now (rows .entry)) (now (rows .exit)) (6 * (n - 1)) ⌝ }
 {
     let end = tables::TUPLE * (n - 1);
     let mut i = tables::TUPLE * m;

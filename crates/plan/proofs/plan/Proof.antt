@@ -77,56 +77,56 @@ unfolding plan actionLine
 returns c =
     let s = c .before .before .before .before in
     let ar = s .args in
-    ((λ st k w. plan-at (s .pre) w (c .before .before .before .action-at .ensures) (c .before .enum-told .given .1) k (ar .m) (ar .r) (c .plan-stop .ensures .0 st k (ar .m))), (c .plan-stop .ensures .1 .0, λ q. omega (arith, c .plan-stop .ensures .1 .1)))
+    ((λ st k w. plan-at (s .pre) w (c .before .before .before .action-at .ensures) (c .before .enum-told .given .1) k (ar .m) (ar .r) (c .plan-stop .ensures .0 st k (ar .m))), (c .plan-stop .ensures .1 .0, (λ q. omega (arith, c .plan-stop .ensures .1 .1)), c .plan-stop .ensures .1 .2))
 
 returns-2 : tie.Need-returns-2
 unfolding plan actionLine
 returns-2 c =
     let s = c .before .before .before .before .before in
     let ar = s .args in
-    ((λ st k w. plan-at (s .pre) w (c .before .before .before .before .action-at .ensures) (c .before .before .next .given .1) k (ar .m) (ar .r) (c .plan-par .ensures .0 st k (ar .m) (ar .r))), (c .plan-par .ensures .1 .0, λ q. omega (arith, c .plan-par .ensures .1 .1)))
+    ((λ st k w. plan-at (s .pre) w (c .before .before .before .before .action-at .ensures) (c .before .before .next .given .1) k (ar .m) (ar .r) (c .plan-par .ensures .0 st k (ar .m) (ar .r))), (c .plan-par .ensures .1 .0, (λ q. omega (arith, c .plan-par .ensures .1 .1)), c .plan-par .ensures .1 .2))
 
 returns-3 : tie.Need-returns-3
 unfolding plan actionLine
 returns-3 c =
     let s = c .before .before .before .before .before in
     let ar = s .args in
-    ((λ st k w. plan-at (s .pre) w (c .before .before .before .before .action-at .ensures) (c .before .before .next2 .given .1) k (ar .m) (ar .r) (c .plan-rep .ensures .0 st k (ar .m) (ar .r))), (c .plan-rep .ensures .1 .0, λ q. omega (arith, c .plan-rep .ensures .1 .1)))
+    ((λ st k w. plan-at (s .pre) w (c .before .before .before .before .action-at .ensures) (c .before .before .next2 .given .1) k (ar .m) (ar .r) (c .plan-rep .ensures .0 st k (ar .m) (ar .r))), (c .plan-rep .ensures .1 .0, (λ q. omega (arith, c .plan-rep .ensures .1 .1)), c .plan-rep .ensures .1 .2))
 
 returns-4 : tie.Need-returns-4
 unfolding plan actionLine
 returns-4 c =
     let s = c .before .before .before .before .before in
     let ar = s .args in
-    ((λ st k w. plan-at (s .pre) w (c .before .before .before .before .action-at .ensures) (c .before .before .next3 .given .1) k (ar .m) (ar .r) (c .plan-out .ensures .0 st k (ar .m) (ar .r))), (c .plan-out .ensures .1 .0, λ q. omega (arith, c .plan-out .ensures .1 .1)))
+    ((λ st k w. plan-at (s .pre) w (c .before .before .before .before .action-at .ensures) (c .before .before .next3 .given .1) k (ar .m) (ar .r) (c .plan-out .ensures .0 st k (ar .m) (ar .r))), (c .plan-out .ensures .1 .0, (λ q. omega (arith, c .plan-out .ensures .1 .1)), c .plan-out .ensures .1 .2))
 
 returns-5 : tie.Need-returns-5
 unfolding plan actionLine
 returns-5 c =
     let s = c .before .before .before .before .before in
     let ar = s .args in
-    ((λ st k w. plan-at (s .pre) w (c .before .before .before .before .action-at .ensures) (c .before .before .next4 .given .1) k (ar .m) (ar .r) (c .plan-in .ensures .0 st k (ar .r) (w .tuplesIs))), (c .plan-in .ensures .1 .0, c .plan-in .ensures .1 .1))
+    ((λ st k w. plan-at (s .pre) w (c .before .before .before .before .action-at .ensures) (c .before .before .next4 .given .1) k (ar .m) (ar .r) (c .plan-in .ensures .0 st k (ar .r) (w .tuplesIs))), c .plan-in .ensures .1)
 
 returns-6 : tie.Need-returns-6
 unfolding plan actionLine
 returns-6 c =
     let s = c .before .before .before .before .before in
     let ar = s .args in
-    ((λ st k w. plan-at (s .pre) w (c .before .before .before .before .action-at .ensures) (c .before .before .next5 .given .1) k (ar .m) (ar .r) (c .plan-read .ensures .0 st k (ar .r) (w .tuplesIs))), (c .plan-read .ensures .1 .0, c .plan-read .ensures .1 .1))
+    ((λ st k w. plan-at (s .pre) w (c .before .before .before .before .action-at .ensures) (c .before .before .next5 .given .1) k (ar .m) (ar .r) (c .plan-read .ensures .0 st k (ar .r) (w .tuplesIs))), c .plan-read .ensures .1)
 
 returns-7 : tie.Need-returns-7
 unfolding plan actionLine
 returns-7 c =
     let s = c .before .before .before .before .before in
     let ar = s .args in
-    ((λ st k w. plan-at (s .pre) w (c .before .before .before .before .action-at .ensures) (c .before .before .next6 .given .1) k (ar .m) (ar .r) (c .plan-eval .ensures .0 st k (ar .m) (ar .r) (w .guests .boxesIs))), (c .plan-eval .ensures .1 .0, λ q. omega (arith, c .plan-eval .ensures .1 .1)))
+    ((λ st k w. plan-at (s .pre) w (c .before .before .before .before .action-at .ensures) (c .before .before .next6 .given .1) k (ar .m) (ar .r) (c .plan-eval .ensures .0 st k (ar .m) (ar .r) (w .guests .boxesIs))), (c .plan-eval .ensures .1 .0, (λ q. omega (arith, c .plan-eval .ensures .1 .1)), c .plan-eval .ensures .1 .2))
 
 returns-8 : tie.Need-returns-8
 unfolding plan actionLine
 returns-8 c =
     let s = c .before .before .before .before .before in
     let ar = s .args in
-    ((λ st k w. plan-at (s .pre) w (c .before .before .before .before .action-at .ensures) (c .before .before .next7 .given .1) k (ar .m) (ar .r) (c .plan-accept .ensures .0 st k (ar .m) (w .guests))), (c .plan-accept .ensures .1 .0, λ q. omega (arith, c .plan-accept .ensures .1 .1)))
+    ((λ st k w. plan-at (s .pre) w (c .before .before .before .before .action-at .ensures) (c .before .before .next7 .given .1) k (ar .m) (ar .r) (c .plan-accept .ensures .0 st k (ar .m) (w .guests))), (c .plan-accept .ensures .1 .0, (λ q. omega (arith, c .plan-accept .ensures .1 .1)), c .plan-accept .ensures .1 .2))
 
 pub plan-spec : {M : Type 1} → statement M
 plan-spec =

@@ -13,7 +13,7 @@ returns : tie.Need-returns
 returns c =
     let s = c .before .before in
     let ar = s .args in
-    ((λ st k e. c .plan-stop .ensures .0 st k (ar .m) ∙ get-none st k (ar .m) 0 _ _ _ _ _ _ (ar .n) (ar .tuples .now) e (omega arith)), (c .plan-stop .ensures .1 .0, λ q. omega (arith, c .plan-stop .ensures .1 .1)))
+    ((λ st k e. c .plan-stop .ensures .0 st k (ar .m) ∙ get-none st k (ar .m) 0 _ _ _ _ _ _ (ar .n) (ar .tuples .now) e (omega arith)), (c .plan-stop .ensures .1 .0, (λ q. omega (arith, c .plan-stop .ensures .1 .1)), c .plan-stop .ensures .1 .2))
 
 agrees-requires : tie.Need-agrees-requires
 agrees-requires c κs = search needs
@@ -29,7 +29,7 @@ returns-2 c =
     let s = c .before .before .before .before in
     let ar = s .args in
     let low = c .before .before .before .if1 .left in
-    ((λ st k e. c .plan-taken .ensures .0 st k ∙ get-some st k (ar .m) 0 _ _ _ _ _ _ (ar .n) (ar .tuples .now) e (omega arith) (sym (c .before .before .agrees .ensures) ∙ c .before .if2 .taken)), (omega (arith, c .plan-taken .ensures .1, s .pre .6), λ q. omega arith))
+    ((λ st k e. c .plan-taken .ensures .0 st k ∙ get-some st k (ar .m) 0 _ _ _ _ _ _ (ar .n) (ar .tuples .now) e (omega arith) (sym (c .before .before .agrees .ensures) ∙ c .before .if2 .taken)), (omega (arith, c .plan-taken .ensures .1 .0, s .pre .6), (λ q. omega arith), c .plan-taken .ensures .1 .1))
 
 plan-stop-requires-2 : tie.Need-plan-stop-requires-2
 plan-stop-requires-2 c κs = search needs
@@ -38,7 +38,7 @@ returns-3 : tie.Need-returns-3
 returns-3 c =
     let s = c .before .before .before .before in
     let ar = s .args in
-    ((λ st k e. c .plan-stop2 .ensures .0 st k (ar .m) ∙ get-other st k (ar .m) 0 _ _ _ _ _ _ (ar .n) (ar .tuples .now) e (omega arith) (sym (c .before .before .agrees .ensures) ∙ c .before .if2 .left)), (c .plan-stop2 .ensures .1 .0, λ q. omega (arith, c .plan-stop2 .ensures .1 .1)))
+    ((λ st k e. c .plan-stop2 .ensures .0 st k (ar .m) ∙ get-other st k (ar .m) 0 _ _ _ _ _ _ (ar .n) (ar .tuples .now) e (omega arith) (sym (c .before .before .agrees .ensures) ∙ c .before .if2 .left)), (c .plan-stop2 .ensures .1 .0, (λ q. omega (arith, c .plan-stop2 .ensures .1 .1)), c .plan-stop2 .ensures .1 .2))
 
 pub plan-get-spec : {M : Type 1} → statement M
 plan-get-spec =

@@ -16,7 +16,7 @@ to-requires c κs = search needs
 
 returns : tie.Need-returns
 unfolding planView stateAfter tuplesAfter
-returns c = ((λ st k m r. plan-out st k m r _ _ _ _ (c .before .before .value .ensures) (c .to .ensures) (c .before .out-row .ensures)), (omega arith, omega arith))
+returns c = ((λ st k m r. plan-out st k m r _ _ _ _ (c .before .before .value .ensures) (c .to .ensures) (c .before .out-row .ensures .0)), (omega arith, omega arith, c .before .out-row .ensures .1))
 
 pub plan-out-spec : {M : Type 1} → statement M
 plan-out-spec = tie.close (tie.spec value-requires out-row-requires to-requires returns)

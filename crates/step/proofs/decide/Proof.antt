@@ -38,6 +38,7 @@ returns c =
     λ st w e. record {
       planIs = λ k. p .ensures .0 st k w;
       taken = p .ensures .1 .1;
+      padded = p .ensures .1 .2;
       measured = subst (λ (ls : List Line). Measured ls (s .args .nthreads) (s .args .ntuples) v (z .result)) (sym (w .guests .linesIs)) (z .ensures);
       numberIs = number-is (s .args .guarded) (v .silent) (v .stop) (z .result .threads) (z .result .tuples) (c .before .before .before .allowed .ensures (st .net) e) (c .before .before .lacks .ensures) (c .before .room .ensures) (c .refusal .ensures);
     }

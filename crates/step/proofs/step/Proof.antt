@@ -8,8 +8,7 @@ use Rattle.state.specs.declared.Run.{Run}
 use Rattle.state.specs.declared.State.{State}
 use Rattle.state.specs.View.{stateView}
 use Rattle.state.specs.Fits.{Fits}
-use Rattle.state.proofs.Laws.{given-unrefused}
-use Rattle.state.proofs.Lent.{joined, joined-fits}
+use Rattle.state.proofs.Lent.{joined, joined-fits, table-same, table-by}
 use Rattle.state.proofs.Few.{tuples-few}
 use Rattle.plan.specs.Move.{tuplesAfter}
 use Rattle.plan.proofs.Fitted.{thread-tables, plannable}
@@ -46,7 +45,7 @@ returns c =
       λ x g e.
           let f = joined-fits x e g in
           stepped-joined (ar .guarded) (ar .k) (ar .m) (ar .r) x e _ _ (stepped-no (ar .guarded) (joined x e) (ar .k) (ar .m) (ar .r) (c .refusing .result) f (no-thread (ar .guarded) (joined x e) (ar .k) (ar .m) (ar .r) (c .before .if1 .taken) (omega (arith, long s, f .threads-few))) (c .refusing .ensures)),
-      (λ h. refl, λ j h l. refl),
+      table-same (ap (λ (x : Run). x .ntuples) (c .refusing .ensures .kept)),
     )
 
 mul-th : tie.Need-mul-th Inv-loop μ-loop
@@ -76,7 +75,7 @@ returns-2 c =
           let f = joined-fits x e g in
           let o = c .before .before .decide .ensures (stateView y) (thread-tables f (long s) (ar .k) h) (homes-is y) in
           stepped-joined (ar .guarded) (ar .k) (ar .m) (ar .r) x e _ _ (stepped-no (ar .guarded) y (ar .k) (ar .m) (ar .r) (c .refusing2 .result) f (step-no (ar .guarded) y (ar .k) (ar .m) (ar .r) f (long s) h d o (c .before .if2 .taken)) (c .refusing2 .ensures)),
-      (λ h. refl, λ j h l. refl),
+      table-same (ap (λ (x : Run). x .ntuples) (c .refusing2 .ensures .kept)),
     )
 
 change-tuples-requires : tie.Need-change-tuples-requires Inv-loop μ-loop
@@ -89,7 +88,7 @@ change-tuples-requires c κs =
     let d = c .before .before .before .before .before .decide .result in
     let o = c .before .before .before .before .before .decide .ensures (stateView y) (thread-tables f (long s) (ar .k) h) (homes-is y) in
     let t = room (ar .guarded) y (ar .k) (ar .m) (ar .r) f (long s) h d o (c .before .before .before .before .if2 .left) .1 in
-    (tuples-few f, omega (arith, o .measured .tuplesIs, t), o .taken, f .tuples-long)
+    (tuples-few f, omega (arith, o .measured .tuplesIs, t), o .taken, f .tuples-long, o .padded)
 
 stepped-requires : tie.Need-stepped-requires Inv-loop μ-loop
 stepped-requires c κs = search needs
@@ -187,10 +186,7 @@ returns-3 c =
           let e = shifted-all (ar .run .nthreads) (ar .k) (ar .run .threads) (d .plan .thread) h few _ refl (d .sizes .nil) (rw (c .before .before .before .before .gap .ensures) at (at .inv .0)) (c .before .before .loop-test .left) in
           let w = shifted-long (ar .run .nthreads) (ar .k) (ar .run .threads) (d .plan .thread) h few _ refl (at .inv .0) ∙ long s in
           stepped-run (ap (λ (nx : Run). withThreads nx (set (at .next .threads) (d .sizes .left) (d .plan .added))) (sym (at .inv .0 .same))) (stepped-joined (ar .guarded) (ar .k) (ar .m) (ar .r) x p _ _ (performs-more (ar .guarded) y (ar .k) (ar .m) (ar .r) f (long s) h d o z _ (t .ensures .1 .0) _ (a .ensures) rows (at .next .threads) w e (c .before .if3 .taken))),
-      (
-        λ l. absurd (given-unrefused (a .result) (a .ensures) (omega (arith, l, ap (λ (nx : Run). nx .told .number) (at .inv .0 .same)))),
-        λ j l q. t .ensures .1 .1 j l (omega (arith, q, ap (λ (nx : Run). nx .ntuples) (at .inv .0 .same), taken .measured .tuplesIs)),
-      ),
+      table-by (ap (λ (nx : Run). nx .ntuples) (at .inv .0 .same) ∙ taken .measured .tuplesIs) (t .ensures .1 .1),
     )
 
 returns-4 : tie.Need-returns-4 Inv-loop μ-loop
@@ -213,10 +209,7 @@ returns-4 c =
           let few : ar .run .nthreads ≤ length (ar .run .threads) = omega (arith, long s, f .threads-few) in
           let e = shifted-all (ar .run .nthreads) (ar .k) (ar .run .threads) (d .plan .thread) h few _ refl (d .sizes .nil) (rw (c .before .before .before .gap .ensures) at (at .inv .0)) (c .before .loop-test .left) in
           stepped-run (sym (at .inv .0 .same)) (stepped-joined (ar .guarded) (ar .k) (ar .m) (ar .r) x p _ _ (performs-alone (ar .guarded) y (ar .k) (ar .m) (ar .r) f (long s) h d o z _ (t .ensures .1 .0) _ (a .ensures) rows (at .next .threads) e (c .if3 .left))),
-      (
-        λ l. absurd (given-unrefused (a .result) (a .ensures) (omega (arith, l, ap (λ (nx : Run). nx .told .number) (at .inv .0 .same)))),
-        λ j l q. t .ensures .1 .1 j l (omega (arith, q, ap (λ (nx : Run). nx .ntuples) (at .inv .0 .same), taken .measured .tuplesIs)),
-      ),
+      table-by (ap (λ (nx : Run). nx .ntuples) (at .inv .0 .same) ∙ taken .measured .tuplesIs) (t .ensures .1 .1),
     )
 
 pub step-spec : {M : Type 1} → statement M

@@ -7,7 +7,7 @@ use Rattle.klaim.specs.declared.Loc.{Loc}
 use Rattle.klaim.specs.Engine.{value}
 use Rattle.tables.specs.View.{locOf, fieldBytes}
 use Rattle.threads.specs.View.{threadView}
-use Rattle.tuples.proofs.Laws.{Made, made-none, made-more, made-all}
+use Rattle.tuples.proofs.Laws.{Made, made-none, made-more, made-padded, made-all}
 use Rattle.tuples.proofs.out_row.Statement.{statement}
 use Rattle.tuples.proofs.out_row.Tie as tie
 
@@ -69,7 +69,7 @@ returns c =
     let ar = s .args in
     let here : 10 * ar .q + 10 ≤ length (ar .lines .now) = omega arith in
     let e : at .j ≡ ar .count = omega arith in
-    made-all (value (threadView (ar .th) .site) (threadView (ar .th) .bindings)) (ar .target) (ar .lines .now) (ar .q) (ar .count) here (s .pre .0) (rw (e, c .before .before .value .ensures) at (at .inv .2))
+    (made-all (value (threadView (ar .th) .site) (threadView (ar .th) .bindings)) (ar .target) (ar .lines .now) (ar .q) (ar .count) here (s .pre .0) (rw (e, c .before .before .value .ensures) at (at .inv .2)), made-padded (at .inv .2) (omega (arith, e)) (omega (arith, e, s .pre .0)))
 
 pub out-row-spec : {M : Type 1} → statement M
 out-row-spec =

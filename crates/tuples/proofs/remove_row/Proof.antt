@@ -1,9 +1,10 @@
-use mathlib.Core.Path.{_≡_, _∙_}
+use mathlib.Core.Path.{_≡_}
 use Prim.Native.Nat.{_≤_, _-_, _*_}
 use native.Mathlib.Omega.{arith}
 use borrow.Author.Needs.{needs}
 use lib.ListN.{length}
-use Rattle.tuples.proofs.Rows.{Moved, moved-none, moved-more, moved-all}
+use Rattle.tuples.specs.Rows.{Moved}
+use Rattle.tuples.proofs.Rows.{moved-none, moved-more, moved-all}
 use Rattle.tuples.proofs.remove_row.Statement.{statement}
 use Rattle.tuples.proofs.remove_row.Tie as tie
 
@@ -48,7 +49,7 @@ returns c =
     let at = c .before .loop in
     let s = c .before .before in
     let e : at .i ≡ 6 * (s .args .n - 1) = omega arith in
-    ((moved-all (s .args .n) (s .args .m) (rw e at (at .inv .5)) (s .pre .0) (omega arith), at .inv .5 .long ∙ at .inv .4), λ j h. at .inv .5 .rest j (omega (arith, e, h)))
+    (moved-all (s .args .n) (s .args .m) (rw e at (at .inv .5)) (s .pre .0) (omega arith), rw e at (at .inv .5))
 
 pub remove-row-spec : {M : Type 1} → statement M
 remove-row-spec =
