@@ -78,3 +78,8 @@ pub fn say_performed(site: u8, target: u8, right: u8) {
     let end = put_byte(&mut out, f, b'\n');
     say_first(&out, end);
 }
+
+// The row of a broken frame.
+pub fn say_broken() {
+    say(b"bad frame\n");
+}

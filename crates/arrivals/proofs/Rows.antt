@@ -25,7 +25,7 @@ use Rattle.scan.specs.Numbers.{earlyOf, lateOf, numberOf, judgedBy}
 use Rattle.scan.specs.Tallies.{countedOf}
 use Rattle.scan.specs.Tallies as Tallies
 use Rattle.scan.proofs.Numbers.{formed, not-formed, early-passed}
-use Rattle.scan.proofs.Tallies.{and-under, group-none, turn-own, own-row}
+use Rattle.scan.proofs.Tallies.{and-under, none-full, turn-own, own-row}
 use Rattle.arrivals.specs.Rows.{ArrivalTally, Passed, fullOf}
 
 -- as many lines stand in the table as Q rows stand above
@@ -40,18 +40,10 @@ third {a} {b} {c} {x} {y} p q r e = rw (p, q, r) (or-false x ∙ e)
 
 -- a row of a foreign group has no row of its group above
 module _ (n d g : ℕ) (above : List Row) (O : All (λ r. own (anArrival n d) (r .group) ≡ true) above) where
-  none-full : (h limit : ℕ) → own (anArrival n d) h ≡ false → leb limit 0 ≡ false → eqb g h & leb limit (length (ofGroup g above)) ≡ false
-  unfolding _&_
-  none-full h limit o z = go (eqb g h) refl
-    where
-      go : (b : Bool) → eqb g h ≡ b → b & leb limit (length (ofGroup g above)) ≡ false
-      go true e = ap (λ (x : ℕ). leb limit (length (ofGroup x above))) (eqb-eq e) ∙ ap (λ (xs : List Row). leb limit (length xs)) (group-none (anArrival n d) h above O o) ∙ z
-      go false e = refl
-
   full-is : (t : Tally) → length (ofGroup groupQ above) ≡ t .lines → full (anArrival n d) g (length (ofGroup g above)) ≡ fullOf d g t
   unfolding full fullOf own present
   full-is t m =
-      third (none-full groupT 256 refl refl) (none-full groupL 64 refl refl) (none-full groupA 256 refl refl)
+      third (none-full (anArrival n d) g above O groupT 256 refl refl) (none-full (anArrival n d) g above O groupL 64 refl refl) (none-full (anArrival n d) g above O groupA 256 refl refl)
       (and-under (eqb g groupQ) {x = leb 256 (d + length (ofGroup g above))} {y = leb 256 (d + t .lines)} (λ e. ap (λ (k : ℕ). leb 256 (d + k)) (ap (λ (x : ℕ). length (ofGroup x above)) (eqb-eq e) ∙ m)))
 
 -- Q rows are in order

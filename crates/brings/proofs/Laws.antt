@@ -3,7 +3,7 @@
 use mathlib.Core.Path.{_≡_, refl, sym, ap, ap₂, subst, _∙_}
 use mathlib.Core.Bool.{Bool, true, false, cond}
 use mathlib.Core.List.{List, [], _∷_, _++_, map}
-use Prim.Native.Nat.{ℕ, zero, suc, _+_, _<_, _≤_, _^_}
+use Prim.Native.Nat.{ℕ, suc, _+_, _<_, _≤_, _^_}
 use native.Mathlib.Omega.{arith}
 use native.Mathlib.Numerals.{add-one}
 use native.Mathlib.Decide.{ℕ-discrete}
@@ -11,9 +11,9 @@ use borrow.Author.Tests.{eq-eqb, ne-eqb, lt-ltb, le-ltb}
 use lib.Dec.{eqb, ltb}
 use lib.ListN.{length, length-set, getD, set, take, List·getD-append}
 use lib.Seq.{take-suc-set, getD-take, length-take-le, getD-set-same, getD-set-other}
-use Rattle.sets.specs.Lists.{All, done, more, _&_, either}
+use Rattle.sets.specs.Lists.{_&_, either}
 use Rattle.sets.specs.Bits.{mem, join}
-use Rattle.sets.proofs.Lists.{iff, all-turn, ltb-lt}
+use Rattle.sets.proofs.Lists.{or-false, iff, all-turn, ltb-lt, in-getD, All-in}
 use Rattle.sets.proofs.Bits.{has-or, has-none}
 use Rattle.klaim.specs.Process.{Line, Nil, lineAt, move, ordered, tree}
 use Rattle.klaim.specs.Net.{Net, Estimate}
@@ -52,18 +52,13 @@ own-kept own n m bs new ls h e =
 
 -- a site more, or none
 module _ (set l s : ℕ) where
-  or-none : (b : Bool) → b ≡ either b false
-  unfolding either
-  or-none true = refl
-  or-none false = refl
-
   pub one-more : {here : Bool} → here ≡ true → mem s (join set (2 ^ l)) ≡ either (mem s set) (here & eqb l s)
   unfolding _&_
   one-more e = rw e (has-or set (2 ^ l) s ∙ ap (either (mem s set)) (mem-single s l))
 
   pub no-more : {here : Bool} → here ≡ false → mem s set ≡ either (mem s set) (here & eqb l s)
   unfolding _&_
-  no-more e = rw e (or-none (mem s set))
+  no-more e = rw e (sym (or-false (mem s set)))
 
 -- the sites below l that pass a test
 abbrev pub Sites : (ℕ → Bool) → ℕ → ℕ → Type 0
@@ -105,12 +100,6 @@ module _ (f : ℕ → Bool) where
   unfolding _&_
   sites-all l set h s k = h s ∙ ap (λ (b : Bool). b & f s) (lt-ltb s l k)
 
--- what holds of all holds of that at a place
-all-place : {P : ℕ → Type 0} {xs : List ℕ} → All P xs → (i : ℕ) → i < length xs → P (getD xs i 0)
-all-place done i h = absurd (omega arith)
-all-place (more p ps) zero h = p
-all-place (more p ps) (suc i) h = all-place ps i (omega arith)
-
 -- an arrival that was read for a state
 module _ (st : State) (f : Fits st) where
   pub sized : length (st .estimate .stand) ≡ 1536 → Sized (st .estimate .nstand) (st .estimate .stand)
@@ -127,7 +116,7 @@ module _ (st : State) (f : Fits st) where
   unfolding stateView
   root-low i h =
       subst (λ (r : ℕ). r < length (linesView (st .nlines) (st .lines))) (getD-take (st .narrivals) (st .arrivals) i 0 h)
-      (all-place (f .invariant .arrivals-ok) i (omega (arith, length-take-le (st .narrivals) (st .arrivals) (omega (arith, f .arrivals-long, arrivals-few f)))) .present)
+      (All-in (f .invariant .arrivals-ok) (in-getD 0 (take (st .narrivals) (st .arrivals)) i (omega (arith, length-take-le (st .narrivals) (st .arrivals) (omega (arith, f .arrivals-long, arrivals-few f))))) .present)
 
   module _ (rows : List ℕ) (a : ArrivalRead) (e : arrivalAnswer a ≡ readArrival (st .net .size) (st .nlines) rows) where
     bring-read : bring (stateView st) rows ≡ bringRead (stateView st) (arrivalAnswer a)

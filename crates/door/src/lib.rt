@@ -22,7 +22,7 @@ fn uses_within(m: UseMap, boxes: &[u8; 1056], d: u8, l: u8) -> bool
     while 0 < t {
         t -= 1;
         let at = t as usize;
-        ok = rules::both(rules::within(rights[at], flow::box_at(boxes, d, l, t)), ok);
+        ok = sets::both(rules::within(rights[at], flow::box_at(boxes, d, l, t)), ok);
     }
     ok
 }

@@ -4,6 +4,7 @@ use mathlib.Core.Path.{_≡_, refl, sym, ap, subst, _∙_}
 use mathlib.Core.Bool.{Bool, true, false, cond, false≢true}
 use mathlib.Core.List.{List, [], _∷_, _++_, map}
 use Prim.Native.Nat.{ℕ, _+_, _<_, _≤_, _^_}
+use native.Mathlib.Nat.{zero-add}
 use native.Mathlib.Omega.{arith}
 use native.Mathlib.Decide.{ℕ-discrete}
 use lib.Dec.{eqb, leb}
@@ -24,7 +25,7 @@ use Rattle.scan.specs.Numbers.{earlyOf, lateOf, numberOf, judgedBy}
 use Rattle.scan.specs.Tallies.{countedOf}
 use Rattle.scan.specs.Tallies as Tallies
 use Rattle.scan.proofs.Numbers.{formed, not-formed, early-passed}
-use Rattle.scan.proofs.Tallies.{and-under, group-none}
+use Rattle.scan.proofs.Tallies.{and-under, none-full}
 use Rattle.repeats.proofs.Rows.{as-kept}
 use Rattle.estimates.specs.Rows.{EstimateTables, EstimateTally, Passed, fullOf, placedOf}
 
@@ -68,9 +69,6 @@ pub stand-count : {above : List Row} {binds stand hold : List ℕ} {k : ℕ} →
 unfolding rowsView
 stand-count {above} {binds} {stand} {hold} {k} T = sym (length-map (ofGroup groupA above) (λ r. r .sites)) ∙ ap length (sym (T .standIs)) ∙ length-table k _
 
-zero-add : (k : ℕ) → 0 + k ≡ k
-zero-add k = omega arith
-
 -- the last of four tests
 fourth : {a b c x y : Bool} → a ≡ false → b ≡ false → c ≡ false → x ≡ y → either a (either b (either c x)) ≡ y
 unfolding either
@@ -78,18 +76,10 @@ fourth p q r e = rw (p, q, r) e
 
 -- a row of a foreign group has no row of its group above
 module _ (n g : ℕ) (above : List Row) (O : All (λ r. own (anEstimate n) (r .group) ≡ true) above) where
-  none-full : (h limit : ℕ) → own (anEstimate n) h ≡ false → leb limit 0 ≡ false → eqb g h & leb limit (length (ofGroup g above)) ≡ false
-  unfolding _&_
-  none-full h limit o z = go (eqb g h) refl
-    where
-      go : (b : Bool) → eqb g h ≡ b → b & leb limit (length (ofGroup g above)) ≡ false
-      go true e = ap (λ (x : ℕ). leb limit (length (ofGroup x above))) (eqb-eq e) ∙ ap (λ (xs : List Row). leb limit (length xs)) (group-none (anEstimate n) h above O o) ∙ z
-      go false e = refl
-
   pub full-is : (t : Tally) → length (ofGroup groupA above) ≡ t .tuples → full (anEstimate n) g (length (ofGroup g above)) ≡ fullOf g t
   unfolding full fullOf own present
   full-is t m =
-      fourth (none-full groupT 256 refl refl) (none-full groupL 64 refl refl) (ap (λ (k : ℕ). eqb g groupQ & leb 256 k) (zero-add (length (ofGroup g above))) ∙ none-full groupQ 256 refl refl)
+      fourth (none-full (anEstimate n) g above O groupT 256 refl refl) (none-full (anEstimate n) g above O groupL 64 refl refl) (ap (λ (k : ℕ). eqb g groupQ & leb 256 k) (zero-add (length (ofGroup g above))) ∙ none-full (anEstimate n) g above O groupQ 256 refl refl)
       (and-under (eqb g groupA) {x = leb 256 (length (ofGroup g above))} {y = leb 256 (t .tuples)} (λ e. ap (leb 256) (ap (λ (x : ℕ). length (ofGroup x above)) (eqb-eq e) ∙ m)))
 
 -- the tests of a row that stands below those of a tally

@@ -3,6 +3,11 @@ ghost use mathlib.Core.Path.{_≡_};
 ghost use Prim.Native.Nat.{_<_, _≤_};
 ghost use lib.ListN.{length};
 
+// Room for all cases. A function of its own keeps the zeros out of what is to be proved of a program.
+pub fn room() -> [u8; 2097152] {
+    [0; 2097152]
+}
+
 // Where a case begins and ends; none, where the frame is broken.
 pub struct Frame {
     pub good: bool,
@@ -11,7 +16,7 @@ pub struct Frame {
 }
 
 // Where the row that begins at `at` ends; at the end of the bytes, where no 0A ends it.
-fn row_end(input: &[u8], at: usize) -> usize
+pub fn row_end(input: &[u8], at: usize) -> usize
     requires { ⌜ at ≤ length (now input) ⌝ }
     ensures { λ r. ⌜ (at ≤ r) × (r ≤ length (now (input .entry))) ⌝ }
 {

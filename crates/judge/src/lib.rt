@@ -31,9 +31,9 @@ pub fn every(n: usize, a: bool, b: bool, c: bool, d: bool) -> bool
     match n {
         0 => true,
         1 => a,
-        2 => lines::both(a, b),
-        3 => lines::both(a, lines::both(b, c)),
-        _ => lines::both(a, lines::both(b, lines::both(c, d))),
+        2 => sets::both(a, b),
+        3 => sets::both(a, sets::both(b, c)),
+        _ => sets::both(a, sets::both(b, sets::both(c, d))),
     }
 }
 
@@ -87,7 +87,7 @@ fn low_names(line: LineData, most: u8, limit: u16) -> bool
     ensures { λ r. ⌜ r ≡ lowNames most limit line ⌝ }
 {
     let target = low(line.target, most, limit);
-    lines::both(target, low_fields(line.fields, most, limit))
+    sets::both(target, low_fields(line.fields, most, limit))
 }
 
 fn low_numbers(line: LineData) -> bool
@@ -96,7 +96,7 @@ fn low_numbers(line: LineData) -> bool
     let next = held(line.next, LINES);
     let other = held(line.other, LINES);
     let sandbox = held(line.sandbox, NUMBERS);
-    lines::both(next, lines::both(other, sandbox))
+    sets::both(next, sets::both(other, sandbox))
 }
 
 // Whether the n of an N row is within its limit.
@@ -133,9 +133,9 @@ pub fn in_limits(row: RowData) -> bool
     let own = held(row.own, LINES);
     let numbers = low_numbers(row.line);
     let named = low_names(row.line, BINDER, NUMBERS);
-    lines::both(
+    sets::both(
         size,
-        lines::both(variable, lines::both(own, lines::both(numbers, named))),
+        sets::both(variable, sets::both(own, sets::both(numbers, named))),
     )
 }
 

@@ -2,7 +2,7 @@
 -- Assumes nothing.
 use mathlib.Core.Path.{_≡_, sym, ap, _∙_}
 use mathlib.Core.Bool.{Bool, true, false}
-use mathlib.Core.List.{List, [], _∷_, _++_, map, append-nil}
+use mathlib.Core.List.{List, [], _∷_, _++_, map, append-nil, map-append}
 use Prim.Native.Nat.{ℕ, _<_}
 use native.Mathlib.Omega.{arith}
 use native.Mathlib.Decide.{ℕ-discrete}
@@ -12,7 +12,7 @@ use lib.Seq.{ext-getD, getD-set-same, getD-set-other}
 use borrow.Author.Tests.{eq-eqb, ne-eqb}
 use Rattle.sets.specs.Lists.{all, only, keep, table}
 use Rattle.sets.specs.Bits.{join, grant, joins}
-use Rattle.sets.proofs.Lists.{leb-le, le-leb, keep-snoc, map-append, all-append, all-one, all-last, iff}
+use Rattle.sets.proofs.Lists.{leb-le, le-leb, keep-snoc, all-append, all-one, all-last, iff}
 use Rattle.sets.proofs.Joins.{join-none-r, joins-snoc}
 use Rattle.sets.proofs.Tables.{length-table, getD-table}
 use Rattle.klaim.specs.Rows.{Row}

@@ -5,14 +5,15 @@ use mathlib.Core.Logic.{_⊎_, inl, inr}
 use mathlib.Core.Bool.{Bool, true, false, not, false≢true}
 use mathlib.Core.List.{List, [], _∷_, _++_, map}
 use mathlib.Core.Option.{Option, none, some}
-use Prim.Native.Nat.{ℕ, zero, suc, _+_, _<_, _≤_}
+use Prim.Native.Nat.{ℕ, _+_, _<_, _≤_}
 use native.Mathlib.Omega.{arith}
 use lib.Dec.{leb, ltb}
 use lib.ListN.{length, getElem?, length-append, length-map, length-replicate, List·getD-append}
 use Rattle.sets.specs.Lists.{Elem, first, later, All, done, more, _&_, either, all, empty, splice, concat, among, _⧺_}
 use Rattle.sets.specs.Bits.{inBit, readBit}
-use Rattle.sets.proofs.Lists.{and-l, and-r, in-none, all-at, all-i, all-none, all-turn, all-snoc, all-append, all-map, all-splice, all-get, among-in, empty-none, All-get, All-append, All-splice, All-turn, All-in, All-concat, ltb-lt, lt-ltb, leb-le, in-concat, in-right, in-map, cond-at, length-cat}
+use Rattle.sets.proofs.Lists.{and-l, and-r, in-none, all-at, all-i, all-none, all-turn, all-snoc, all-append, all-map, all-splice, all-get, among-in, empty-none, All-get, All-append, All-splice, All-turn, All-in, All-concat, ltb-lt, lt-ltb, leb-le, in-concat, in-right, in-map, cond-at, length-cat, in-getD}
 use Rattle.sets.proofs.Tables.{length-table}
+use Rattle.klaim.specs.Limits.{threadLimit, tupleLimit}
 use Rattle.klaim.specs.declared.Loc.{Loc}
 use Rattle.klaim.specs.declared.Slot.{Slot}
 use Rattle.klaim.specs.declared.Slot.the-variants.{Value}
@@ -21,7 +22,7 @@ use Rattle.klaim.specs.Net.{Root, Net}
 use Rattle.klaim.specs.Reader.{Answer, refused, gives, World, readBoth}
 use Rattle.klaim.specs.State.{Bindings, Thread, State, unbound, isNil, settle, homePolicy, boxPolicy, rootThread, begin, start}
 use Rattle.klaim.specs.Engine.{Event, silent, Result, joined, bringRead, bring, value, bindAll, agrees, to, under, after, Plan, stop, quiet, act, getPlan, acceptPlan, plan, permits, limit, finish, stepOf, step}
-use Rattle.klaim.specs.Invariant.{allBelow, lineFits, distinct, ArrivalOk, ThreadOk, Invariant}
+use Rattle.klaim.specs.Invariant.{allBelow, lineFits, ArrivalOk, ThreadOk, Invariant}
 use Rattle.klaim.specs.WellFormed.{RootOk, NetOk, EstimateOk, ArrivalRead}
 use Rattle.klaim.proofs.Reader.{then-gives, arrival-read, both-read}
 use Rattle.klaim.proofs.Process.{child-line, tree-node, tree-old, free-new, ordered-join, used-free, child-free}
@@ -45,29 +46,18 @@ settle-ok n ls th o =
     cond-at (All (ThreadOk n ls)) (isNil (lineAt ls (th .line))) (λ t. done)
     (λ t. more (record { placed = o .placed; policy-long = o .policy-long; present = o .present; running = t; bindings-long = o .bindings-long; bindings-low = o .bindings-low; free-bound = o .free-bound }) done)
 
--- the invariant but for the lengths of the lists that a step makes
-pub record Loose (st : State) : Type 0 where
-  pub sites-some : 1 ≤ st .net .size
-  pub sites-few : st .net .size ≤ 32
-  pub lines-few : length (st .lines) ≤ 256
-  pub lines-ordered : ordered (st .lines) ≡ true
-  pub lines-fit : all (lineFits (st .net .size)) (st .lines) ≡ true
-  pub stand-fit : all (allBelow (st .net .size)) (st .estimate .stand) ≡ true
-  pub stand-few : length (st .estimate .stand) ≤ 256
-  pub stand-distinct : distinct (st .estimate .stand) ≡ true
-  pub tuples-fit : all (allBelow (st .net .size)) (st .tuples) ≡ true
-  pub arrivals-ok : All (ArrivalOk (st .lines)) (st .arrivals)
-  pub threads-ok : All (ThreadOk (st .net .size) (st .lines)) (st .threads)
-
-tighten : {st : State} → Loose st → length (st .threads) ≤ 64 → length (st .tuples) ≤ 256 → Invariant st
-tighten o a b = record { sites-some = o .sites-some; sites-few = o .sites-few; lines-few = o .lines-few; threads-few = a; tuples-few = b; lines-ordered = o .lines-ordered; lines-fit = o .lines-fit; stand-fit = o .stand-fit; stand-few = o .stand-few; stand-distinct = o .stand-distinct; tuples-fit = o .tuples-fit; arrivals-ok = o .arrivals-ok; threads-ok = o .threads-ok }
+-- the invariant, if the lists that a step makes are short enough
+abbrev pub Loose : State → Type 0
+Loose st = length (st .threads) ≤ threadLimit → length (st .tuples) ≤ tupleLimit → Invariant st
 
 after-ok : (st : State) (k : ℕ) (th : Thread) (new : List Thread) (ts : List (List ℕ)) → Invariant st → Standing (st .net .size) (st .lines) th → All (ThreadOk (st .net .size) (st .lines)) new → all (allBelow (st .net .size)) ts ≡ true → Loose (after st k th new ts)
 unfolding after
-after-ok st k th new ts i s n t = record {
+after-ok st k th new ts i s n t few short = record {
   sites-some = i .sites-some;
   sites-few = i .sites-few;
   lines-few = i .lines-few;
+  threads-few = few;
+  tuples-few = short;
   lines-ordered = i .lines-ordered;
   lines-fit = i .lines-fit;
   stand-fit = i .stand-fit;
@@ -83,12 +73,6 @@ abbrev pub PlanOk : ℕ → Plan → Type 0
 PlanOk n (stop m) = Unit {0}
 PlanOk n (quiet new) = Loose new
 PlanOk n (act t right new) = Loose new × (t < n)
-
-fits-at : (n : ℕ) (ls : List Line) (q : ℕ) → all (lineFits n) ls ≡ true → q < length ls → lineFits n (lineAt ls q) ≡ true
-unfolding all
-fits-at n [] q t h = absurd (omega arith)
-fits-at n (l ∷ ls) zero t h = and-l _ _ t
-fits-at n (l ∷ ls) (suc q) t h = fits-at n ls q (and-r _ _ t) (omega arith)
 
 all-part : {A : Type 0} (f : ℕ → Bool) (g : A → List ℕ) {xs : List A} {x : A} → all f (concat g xs) ≡ true → Elem x xs → all f (g x) ≡ true
 all-part f g {x = x} t i = all-i f (g x) (λ y j. all-at f (in-concat g i j) t)
@@ -108,7 +92,7 @@ module _ (st : State) (i : Invariant st) (th : Thread) (o : Standing (st .net .s
 
   module _ (l : Line) (e : lineAt (st .lines) (th .line) ≡ l) where
     fits : lineFits n l ≡ true
-    fits = subst (λ (x : Line). lineFits n x ≡ true) e (fits-at n (st .lines) (th .line) (i .lines-fit) (o .present))
+    fits = subst (λ (x : Line). lineFits n x ≡ true) e (all-at (lineFits n) (in-getD Nil (st .lines) (th .line) (o .present)) (i .lines-fit))
 
     free-here : (u : ℕ) → Elem u (free (node (tree (st .lines)) (th .line) l)) → BoundTo (th .bindings) u
     free-here u h = o .free-bound u (subst (λ (t : Tree). Elem u (free t)) (sym (tree-node (st .lines) (th .line) (i .lines-ordered) ∙ ap (node (tree (st .lines)) (th .line)) e)) h)
@@ -237,7 +221,7 @@ limit-ok : (st : State) (e : Event) (new : State) → Invariant st → Loose new
 unfolding limit
 limit-ok st e new i o =
     cond-at (λ (x : Result). Invariant (x .state)) (leb (length (new .threads)) 64 & leb (length (new .tuples)) 256)
-    (λ t. tighten o (leb-le _ _ (and-l _ _ t)) (leb-le _ _ (and-r _ _ t)))
+    (λ t. o (leb-le _ _ (and-l _ _ t)) (leb-le _ _ (and-r _ _ t)))
     (λ t. i)
 
 finish-ok : (guarded : Bool) (st : State) (th : Thread) (pl : Plan) → Invariant st → PlanOk (st .net .size) pl → Invariant (finish guarded st th pl .state)

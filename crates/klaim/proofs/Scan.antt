@@ -2,14 +2,14 @@
 -- Assumes nothing.
 use mathlib.Core.Path.{_≡_, refl, sym, ap, subst, _∙_}
 use mathlib.Core.Bool.{Bool, true, false, not, false≢true}
-use mathlib.Core.List.{List, [], _∷_, _++_, map, append-nil}
+use mathlib.Core.List.{List, [], _∷_, _++_, map, append-nil, map-append}
 use mathlib.Core.Option.{Option, none, some}
 use Prim.Native.Nat.{ℕ, suc, _+_, _<_, _≤_}
 use native.Mathlib.Omega.{arith}
 use lib.Dec.{eqb, leb, ltb}
 use lib.ListN.{length}
 use Rattle.sets.specs.Lists.{Elem, first, later, All, done, more, _&_, any, only, keep, empty, same, _⧺_}
-use Rattle.sets.proofs.Lists.{and-l, and-r, imp-e, not-no, neither-l, neither-r, cond-at, eqb-eq, eq-eqb, leb-le, nleb-lt, lt-ltb, all-at, all-i, ltb-lt, none-all, length-keep, All-append, All-turn, All-in, and-i, not-yes, any-none, any-snoc, same-eq, same-refl, map-out, keep-out, keep-snoc, map-append}
+use Rattle.sets.proofs.Lists.{and-l, and-r, imp-e, not-no, neither-l, neither-r, cond-at, eqb-eq, eq-eqb, leb-le, nleb-lt, lt-ltb, all-at, all-i, ltb-lt, none-all, length-keep, All-append, All-turn, All-in, and-i, not-yes, any-none, any-snoc, same-eq, same-refl, map-out, keep-out, keep-snoc}
 use Rattle.klaim.specs.Limits.{siteLimit}
 use Rattle.klaim.specs.Process.{template, clash}
 use Rattle.klaim.specs.Rows.{Row, groupN, groupR, groupT, groupQ, groupA, groupE, comma, split, _>>=_, given, otherwise, rowN, rowPair, rowD, rowTuple, rowL, rowB, rowLine, rowQ, rowForm, rowOf, rowsFrom, rowsOf}

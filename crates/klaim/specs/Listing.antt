@@ -7,7 +7,7 @@ use Prim.Native.Char.{code}
 use Prim.Native.String.{String}
 use lib.Dec.{eqb, ltb}
 use lib.ListN.{length, take, drop, getD}
-use Rattle.sets.specs.Lists.{_&_, all, keep, concat, below, same, sum, _⧺_}
+use Rattle.sets.specs.Lists.{_&_, keep, concat, below, same, sum, _⧺_}
 use Rattle.sets.specs.Bits.{outBit, inBit, readBit, evalBit, everyBit, has, join, meet, joins, grant, size}
 use Rattle.klaim.specs.Limits.{siteLimit, reportSize, inputLimit}
 use Rattle.klaim.specs.Rows.{text, comma, newline}

@@ -120,12 +120,6 @@ pub fn fit(name: Name, most: u8) -> bool
     kind <= most
 }
 
-pub fn both(a: bool, b: bool) -> bool
-    ensures { λ r. ⌜ r ≡ a & b ⌝ }
-{
-    if a { b } else { false }
-}
-
 // Whether there are one to four fields, each of the kinds from 1 to `most`.
 pub fn fits(f: Four, most: u8) -> bool
     ensures { λ r. ⌜ r ≡ fitAll most f ⌝ }
@@ -137,9 +131,9 @@ pub fn fits(f: Four, most: u8) -> bool
     let d = fit(f.d, most);
     match n {
         1 => a,
-        2 => both(a, b),
-        3 => both(a, both(b, c)),
-        4 => both(a, both(b, both(c, d))),
+        2 => sets::both(a, b),
+        3 => sets::both(a, sets::both(b, c)),
+        4 => sets::both(a, sets::both(b, sets::both(c, d))),
         _ => false,
     }
 }

@@ -1,22 +1,12 @@
 // Runs `listing::list` on many cases from one standard input, framed as `frames` says: for each a row `case,K` and its listing.
 ghost use Prim.Native.Nat.{_<_};
 
-// Room for all cases. A function of its own keeps the zeros out of what is to be proved of `main`.
-fn room() -> [u8; 2097152] {
-    [0; 2097152]
-}
-
 // Case k: its row and its listing.
 fn list_case(k: usize, case: &[u8]) {
     let mut output = [0u8; listing::LISTING];
     answers::say_count(b"case,", k);
     let n = listing::list(case, &mut output);
     io::write_all(libc::STDOUT_FILENO, &output[..n]);
-}
-
-// The row of a broken frame.
-fn say_broken() {
-    answers::say(b"bad frame\n");
 }
 
 // Every case in turn; a broken frame ends the run.
@@ -26,7 +16,7 @@ fn list_all(input: &[u8]) {
     while at < input.len() {
         let frame = frames::next(input, at);
         if !frame.good {
-            say_broken();
+            answers::say_broken();
             return;
         }
         let from = frame.from;
@@ -38,7 +28,7 @@ fn list_all(input: &[u8]) {
 }
 
 fn main() {
-    let mut buffer = room();
+    let mut buffer = frames::room();
     let n = io::read_full(libc::STDIN_FILENO, &mut buffer);
     list_all(&buffer[..n]);
 }

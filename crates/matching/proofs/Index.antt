@@ -2,7 +2,7 @@
 -- Assumes nothing.
 use mathlib.Core.Path.{_≡_, refl, sym, ap, ap₂, subst, _∙_}
 use mathlib.Core.Logic.{_⊎_, inl, inr}
-use mathlib.Core.Bool.{Bool, true, false, not, cond, false≢true}
+use mathlib.Core.Bool.{Bool·not-not, Bool, true, false, not, cond, false≢true}
 use mathlib.Core.List.{List, [], _∷_, map}
 use Prim.Native.Nat.{ℕ, zero, suc, _+_, _*_, _-_, _/_, _%_, _^_, _<_, _≤_, min}
 use native.Mathlib.Omega.{arith}
@@ -300,11 +300,7 @@ pub kept-rest : (a : Bool) (i n x set : ℕ) → x < 32 → set < 4294967296 →
 unfolding _&_
 kept-rest true i n x set h l f =
     let e : set + (4294967295 - set) + 1 ≡ 4294967296 = omega arith in
-    ap (λ (b : Bool). not (b & mem x (4294967295 - set))) (lt-ltb i n (f refl)) ∙ ap not (mem-other-site 32 x set (4294967295 - set) e h) ∙ twice (mem x set)
-  where
-    twice : (b : Bool) → not (not b) ≡ b
-    twice true = refl
-    twice false = refl
+    ap (λ (b : Bool). not (b & mem x (4294967295 - set))) (lt-ltb i n (f refl)) ∙ ap not (mem-other-site 32 x set (4294967295 - set) e h) ∙ Bool·not-not (mem x set)
 kept-rest false i n x set h l f = refl
 
 pub kept-some : (a : Bool) (i n x set : ℕ) → (a ≡ true → i < n) → (a & (ltb i n & mem x set)) ≡ (a & mem x set)

@@ -3,13 +3,14 @@
 use mathlib.Core.Path.{_≡_, refl, sym, ap, ap₂, subst, _∙_}
 use mathlib.Core.Bool.{Bool, true, false, cond}
 use mathlib.Core.List.{List, [], _∷_, _++_, map}
-use Prim.Native.Nat.{ℕ, zero, suc, _<_, _≤_}
+use Prim.Native.Nat.{ℕ, suc, _<_, _≤_}
 use native.Mathlib.Omega.{arith}
 use borrow.Author.Tests.{eq-eqb, ne-eqb}
 use lib.Dec.{eqb}
 use lib.ListN.{length, getD, getElem?, take, drop, drop-of-length-le}
 use lib.Seq.{drop-cons, length-take-le, getD-take}
-use Rattle.sets.specs.Lists.{Elem, first, later, _&_, either, any, among}
+use Rattle.sets.specs.Lists.{_&_, either, any, among}
+use Rattle.sets.proofs.Lists.{in-getD}
 use Rattle.sets.specs.Bits.{mem}
 use Rattle.klaim.specs.declared.Loc.{Loc}
 use Rattle.klaim.specs.declared.Slot.{Slot}
@@ -116,26 +117,21 @@ module _ (xs : List ℕ) (n r : ℕ) (long : n ≤ length xs) (i : ℕ) where
 
 -- the root at a place is a line
 module _ {lines : List ℕ} {n : ℕ} {arrivals : List ℕ} {narrivals : ℕ} {sets : List ℕ} (w : Admits lines n arrivals narrivals sets) (i : ℕ) (h : i < narrivals) where
-  place : (xs : List ℕ) (j : ℕ) → j < length xs → Elem (getD xs j 0) xs
-  place [] j k = absurd (omega arith)
-  place (x ∷ xs) zero k = first refl
-  place (x ∷ xs) (suc j) k = later (place xs j (omega arith))
-
   pub root-present : getD arrivals i 0 < n
   root-present =
       subst (λ (r : ℕ). r < n) (getD-take narrivals arrivals i 0 h)
-      (w .arrivalsPresent (getD (take narrivals arrivals) i 0) (place (take narrivals arrivals) i (omega (arith, w .arrivalsLong, w .arrivalsFew, length-take-le narrivals arrivals (omega (arith, w .arrivalsLong, w .arrivalsFew))))))
+      (w .arrivalsPresent (getD (take narrivals arrivals) i 0) (in-getD 0 (take narrivals arrivals) i (omega (arith, w .arrivalsLong, w .arrivalsFew, length-take-le narrivals arrivals (omega (arith, w .arrivalsLong, w .arrivalsFew))))))
 
   pub root-form : InForm n lines (getD arrivals i 0)
   root-form = record { inOrder = w .inOrder; present = root-present }
 
 -- the two parts of the door, the one without a sandbox tested first
-fits-sound : (u s : Bool) → s ≡ true → u ≡ (u & s)
+pub fits-sound : (u s : Bool) → s ≡ true → u ≡ (u & s)
 unfolding _&_
 fits-sound true s e = sym e
 fits-sound false s e = refl
 
-not-sound : (u s : Bool) → s ≡ false → false ≡ (u & s)
+pub not-sound : (u s : Bool) → s ≡ false → false ≡ (u & s)
 unfolding _&_
 not-sound true s e = sym e
 not-sound false s e = refl

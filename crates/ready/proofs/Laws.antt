@@ -12,8 +12,8 @@ use borrow.Author.Tests.{le-ltb}
 use lib.Dec.{ltb}
 use lib.ListN.{length, getD, getElem?, take}
 use lib.Seq.{length-take-le, getD-take}
-use Rattle.sets.specs.Lists.{Elem, first, later, _&_, either, any, keep, below, among, table}
-use Rattle.sets.proofs.Lists.{any-i, All-get, lt-ltb}
+use Rattle.sets.specs.Lists.{first, _&_, either, any, keep, below, among, table}
+use Rattle.sets.proofs.Lists.{any-i, All-get, lt-ltb, in-getD}
 use Rattle.sets.proofs.Tables.{getD-table, length-table}
 use Rattle.klaim.specs.Process.{Line, lineAt, tree}
 use Rattle.klaim.specs.Analysis.{least}
@@ -41,13 +41,8 @@ use Rattle.ready.proofs.Runnable.{From, runnable-is, lowest-start, lowe
 
 -- a search through a list: found at a place, or at none
 module _ {A : Type 0} (f : A → Bool) (d : A) where
-  place : (xs : List A) (i : ℕ) → i < length xs → Elem (getD xs i d) xs
-  place [] i h = absurd (omega arith)
-  place (x ∷ xs) zero h = first refl
-  place (x ∷ xs) (suc i) h = later (place xs i (omega arith))
-
   any-here : (xs : List A) (i : ℕ) → i < length xs → f (getD xs i d) ≡ true → true ≡ any f xs
-  any-here xs i h t = sym (any-i f (place xs i h) t)
+  any-here xs i h t = sym (any-i f (in-getD d xs i h) t)
 
   any-nowhere : (xs : List A) → ((i : ℕ) → i < length xs → f (getD xs i d) ≡ false) → false ≡ any f xs
   unfolding any either
@@ -94,17 +89,6 @@ module _ {st : Spec.State} {l : ℕ} {lines : List ℕ} {n : ℕ} {boxes binds a
 -- the room for an arrival
 pub room-for : {st : Spec.State} {l : ℕ} {lines : List ℕ} {n : ℕ} {boxes binds arrivals : List ℕ} {narrivals : ℕ} {sets : List ℕ} → Guests st l lines n boxes binds arrivals narrivals sets → (count a r : ℕ) {o : Bool} → o ≡ room count (linesView n lines) a r → o ≡ room count (st .lines) a r
 room-for w count a r e = e ∙ ap (λ (ls : List Line). room count ls a r) (sym (w .linesIs))
-
--- the two tests of one arrival
-pub open-room : {p o : Bool} {x : Bool} → o ≡ x → o ≡ true → (z : Bool) → p ≡ z → p ≡ (z & x)
-unfolding _&_
-open-room e t true q = q ∙ sym (sym e ∙ t)
-open-room e t false q = q
-
-pub no-room : {o x : Bool} → o ≡ x → o ≡ false → (z : Bool) → false ≡ (z & x)
-unfolding _&_
-no-room e t true = sym (sym e ∙ t)
-no-room e t false = refl
 
 -- what stands in the tables, said of the state
 module _ {st : Spec.State} {l : ℕ} {lines : List ℕ} {n : ℕ} {boxes binds arrivals : List ℕ} {narrivals : ℕ} {sets tuples : List ℕ} {ntuples : ℕ} (w : Tables st l lines n boxes binds arrivals narrivals sets tuples ntuples) where

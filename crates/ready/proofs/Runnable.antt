@@ -3,13 +3,14 @@
 use mathlib.Core.Path.{_≡_, refl, sym, ap, ap₂, _∙_}
 use mathlib.Core.Bool.{Bool, true, false, cond, false≢true}
 use mathlib.Core.List.{List, [], _∷_, _++_, map}
-use mathlib.Core.Option.{Option, none, some}
+use mathlib.Core.Option.{Option·none-ne-some, Option, none, some}
 use Prim.Native.Nat.{ℕ, zero, suc, _+_, _-_, _<_, _≤_}
 use native.Mathlib.Omega.{arith}
 use native.Mathlib.Nat.{min-eq-left}
 use lib.Dec.{eqb, leb, ltb}
 use lib.ListN.{length, getElem?, length-append}
 use Rattle.sets.specs.Lists.{Elem, first, later, _&_, either, any, only, keep, splice, below, table, tableFrom, among, _⧺_}
+use Rattle.threads.proofs.Splice.{splice-long}
 use Rattle.sets.specs.Bits.{outBit, inBit, readBit, evalBit, acceptBit}
 use Rattle.sets.proofs.Lists.{and-l, and-r, and-i, iff, any-at, any-i, in-any, eq-eqb, leb-le, le-leb, ltb-lt, lt-ltb, among-in}
 use Rattle.klaim.specs.declared.Loc.{Loc}
@@ -27,16 +28,13 @@ use Rattle.ready.specs.Runs.{standing, room, welcome, runs}
 
 -- a place with an element lies within the list, and has one of the elements
 module _ {A : Type 0} where
-  no-none : {x : A} → none ≡ some x → ⊥
-  no-none q = let z : _≡_ {A = ℕ} 0 1 = cc in omega arith
-
   place-low : (xs : List A) (k : ℕ) {x : A} → getElem? xs k ≡ some x → k < length xs
-  place-low [] k e = absurd (no-none e)
+  place-low [] k e = absurd (Option·none-ne-some _ e)
   place-low (y ∷ xs) zero e = omega arith
   place-low (y ∷ xs) (suc k) e = omega (arith, place-low xs k e)
 
   place-in : (xs : List A) (k : ℕ) {x : A} → getElem? xs k ≡ some x → Elem x xs
-  place-in [] k e = absurd (no-none e)
+  place-in [] k e = absurd (Option·none-ne-some _ e)
   place-in (y ∷ xs) zero {x} e =
       let q : x ≡ y = cc in
       first q
@@ -45,12 +43,6 @@ module _ {A : Type 0} where
   in-place : {xs : List A} {x : A} → Elem x xs → (k : ℕ) × (getElem? xs k ≡ some x)
   in-place (first e) = (0, ap (λ (y : A). some y) (sym e))
   in-place (later i) = let r = in-place i in (suc (r .0), r .1)
-
-  splice-length : (k : ℕ) (ys xs : List A) → k < length xs → suc (length (splice k ys xs)) ≡ length ys + length xs
-  unfolding splice
-  splice-length k ys [] h = absurd (omega arith)
-  splice-length zero ys (x ∷ xs) h = omega (arith, length-append ys xs)
-  splice-length (suc k) ys (x ∷ xs) h = omega (arith, splice-length k ys xs (omega arith))
 
   splice-short : (k : ℕ) (xs : List A) → length (splice k [] xs) ≤ length xs
   unfolding splice
@@ -100,7 +92,7 @@ module _ (st : State) (inv : Invariant st) (k : ℕ) (th : Thread) (at : getElem
   after-length : (t : Thread) (more : List Thread) (ts : List (List ℕ)) → suc (length (after st k t more ts .threads)) ≡ length (st .threads) + standing (st .lines) (t .line) + length more
   unfolding after
   after-length t more ts =
-      omega (arith, length-append (splice k (settle (st .lines) t) (st .threads)) more, splice-length k (settle (st .lines) t) (st .threads) low, settle-length (st .lines) t)
+      omega (arith, length-append (splice k (settle (st .lines) t) (st .threads)) more, splice-long k (settle (st .lines) t) (st .threads) low, low, settle-length (st .lines) t)
 
   -- one thread goes on and one is appended
   room-limit : (t u : Thread) (e : Event) → performs (limit st e (after st k t (settle (st .lines) u) (st .tuples)) .answer) ≡ room (length (st .threads)) (st .lines) (t .line) (u .line)

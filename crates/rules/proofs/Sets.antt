@@ -2,14 +2,14 @@
 -- Assumes nothing.
 use mathlib.Core.Path.{_≡_, refl, sym, ap, ap₂, subst, _∙_}
 use mathlib.Core.Bool.{Bool, true, false}
-use mathlib.Core.List.{List, [], _∷_, _++_, map}
+use mathlib.Core.List.{List, [], _∷_, _++_, map, map-append}
 use Prim.Native.Nat.{ℕ, suc, _+_, _<_}
 use native.Mathlib.Omega.{arith}
 use lib.ListN.{length, getD, take, set}
 use lib.Seq.{take-suc, take-suc-set}
 use Rattle.sets.specs.Lists.{_&_, imp, all, any, tableFrom, table, below, same, among, fits}
 use Rattle.sets.specs.Bits.{has, mem, sites}
-use Rattle.sets.proofs.Lists.{and-yes, and-l, and-r, all-at, all-same, ltb-lt, map-append}
+use Rattle.sets.proofs.Lists.{and-yes, and-l, and-r, all-at, all-same, ltb-lt}
 use Rattle.sets.proofs.Tables.{below-in}
 use Rattle.klaim.specs.declared.Var.{Var}
 use Rattle.klaim.specs.declared.Loc.{Loc}

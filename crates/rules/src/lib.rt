@@ -123,12 +123,6 @@ pub fn get_rule(
     matching::every_bound(index, want, allow, m)
 }
 
-pub fn both(a: bool, b: bool) -> bool
-    ensures { λ r. ⌜ r ≡ (a & b) ⌝ }
-{
-    if a { b } else { false }
-}
-
 pub fn within(a: u8, b: u8) -> bool
     ensures { λ r. ⌜ r ≡ isWithin a b ⌝ }
 {
@@ -145,7 +139,7 @@ fn row_holds(hold: &[u8; 1024], l: u8, need: [u8; 32]) -> bool
     let mut t: usize = tables::SITES;
     while 0 < t {
         t -= 1;
-        ok = both(within(need[t], hold[at + t]), ok);
+        ok = sets::both(within(need[t], hold[at + t]), ok);
     }
     ok
 }
@@ -172,7 +166,7 @@ pub fn eval_rule(boxes: &[u8; 1056], hold: &[u8; 1024], set: u32, k: u8) -> bool
     let mut l: u8 = 32;
     while 0 < l {
         l -= 1;
-        ok = both(held(hold, set, l, need), ok);
+        ok = sets::both(held(hold, set, l, need), ok);
     }
     ok
 }

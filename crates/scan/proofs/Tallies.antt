@@ -5,7 +5,8 @@ use mathlib.Core.Bool.{Bool, true, false, false≢true}
 use mathlib.Core.List.{List, [], _∷_, _++_, map}
 use Prim.Native.Nat.{ℕ, _+_}
 use native.Mathlib.Omega.{arith}
-use lib.Dec.{eqb}
+use lib.Dec.{eqb, leb}
+use lib.ListN.{length}
 use borrow.Author.Tests.{lt-ltb}
 use Rattle.sets.specs.Lists.{All, done, more, _&_, only, keep, below, same, _⧺_}
 use Rattle.sets.proofs.Lists.{eqb-eq, and-true, and-false, and-assoc}
@@ -52,6 +53,15 @@ group-none t g (r ∷ above) (more p ps) h = go (eqb (r .group) g) refl (group-n
     go : (b : Bool) → eqb (r .group) g ≡ b → keep (λ r. eqb (r .group) g) above ≡ [] → only b r ⧺ keep (λ r. eqb (r .group) g) above ≡ []
     go true e k = absurd (false≢true (sym h ∙ ap (own t) (sym (eqb-eq e)) ∙ p))
     go false e k = k
+
+-- so that group is not full
+pub none-full : (t : Text) (g : ℕ) (above : List Row) → All (λ r. own t (r .group) ≡ true) above → (h limit : ℕ) → own t h ≡ false → leb limit 0 ≡ false → eqb g h & leb limit (length (ofGroup g above)) ≡ false
+unfolding _&_
+none-full t g above O h limit o z = go (eqb g h) refl
+  where
+    go : (b : Bool) → eqb g h ≡ b → b & leb limit (length (ofGroup g above)) ≡ false
+    go true e = ap (λ (x : ℕ). leb limit (length (ofGroup x above))) (eqb-eq e) ∙ ap (λ (xs : List Row). leb limit (length xs)) (group-none t h above O o) ∙ z
+    go false e = refl
 
 -- what an N row and a Q row say
 module _ (r : RowData) (G : rowGood r ≡ true) where

@@ -1,20 +1,10 @@
 // Runs `scripts::run` on many cases from one standard input, framed as `frames` says: for each a row `case,K` and what its script prints.
 ghost use Prim.Native.Nat.{_<_};
 
-// Room for all cases. A function of its own keeps the zeros out of what is to be proved of `main`.
-fn room() -> [u8; 2097152] {
-    [0; 2097152]
-}
-
 // Case k: its row and what its script prints.
 fn run_case(k: usize, case: &[u8]) {
     answers::say_count(b"case,", k);
     scripts::run(case);
-}
-
-// The row of a broken frame.
-fn say_broken() {
-    answers::say(b"bad frame\n");
 }
 
 // Every case in turn; a broken frame ends the run.
@@ -24,7 +14,7 @@ fn run_all(input: &[u8]) {
     while at < input.len() {
         let frame = frames::next(input, at);
         if !frame.good {
-            say_broken();
+            answers::say_broken();
             return;
         }
         let from = frame.from;
@@ -36,7 +26,7 @@ fn run_all(input: &[u8]) {
 }
 
 fn main() {
-    let mut buffer = room();
+    let mut buffer = frames::room();
     let n = io::read_full(libc::STDIN_FILENO, &mut buffer);
     run_all(&buffer[..n]);
 }

@@ -153,14 +153,6 @@ fn skip(rows: &[u8], at: usize) -> usize
     at + parts::behind(rest, n)
 }
 
-// Where the row that begins at `at` ends; at the end of the bytes, where no 0A ends it.
-fn row_end(rows: &[u8], at: usize) -> usize
-    requires { ⌜ at ≤ length (now rows) ⌝ }
-    ensures { λ r. ⌜ (at ≤ r) × (r ≤ length (now (rows .entry))) ⌝ }
-{
-    text::row_end(rows, at)
-}
-
 // Runs the commands.
 fn run_all(state: State, rows: &[u8]) -> State
     requires { ⌜ Fits state ⌝ }
@@ -169,7 +161,7 @@ fn run_all(state: State, rows: &[u8]) -> State
     let mut last = state;
     let mut at: usize = 0;
     while at < rows.len() {
-        let end = row_end(rows, at);
+        let end = frames::row_end(rows, at);
         if end == rows.len() {
             say_bad();
             return last;

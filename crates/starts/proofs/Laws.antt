@@ -20,6 +20,7 @@ use Rattle.klaim.specs.State as Spec
 use Rattle.klaim.specs.State.{isNil, settle, homePolicy, rootThread, begin, start}
 use Rattle.klaim.specs.WellFormed.{RootOk, NetOk}
 use Rattle.klaim.proofs.Reader.{both-read}
+use Rattle.klaim.specs.Invariant.{Invariant}
 use Rattle.klaim.proofs.Invariant.{start-gives}
 use Rattle.tables.specs.declared.Net as Tables
 use Rattle.tables.specs.declared.Estimate.{Estimate}
@@ -30,8 +31,9 @@ use Rattle.worlds.specs.declared.WorldRead.{WorldRead}
 use Rattle.worlds.specs.World.{worldView, worldAnswer}
 use Rattle.state.specs.declared.State.{State}
 use Rattle.state.specs.View.{groundView, stateView}
+use Rattle.state.specs.Fits.{Fits}
 use Rattle.starts.specs.declared.Threads.{Threads}
-use Rattle.starts.specs.Started.{startView, Started, Fresh, RootsPlaced, groundOf, begunOf}
+use Rattle.starts.specs.Started.{startView, Started, RootsPlaced, groundOf, begunOf}
 
 -- the thread of a root
 pub root-view : (N : Net) (s q : ℕ) (ss : List Site) {p : List ℕ} → p ≡ homePolicy N s → record { site = s; policy = p; line = q; bindings = bindingsView 0 ss } ≡ rootThread N (record { site = s; line = q })
@@ -78,17 +80,19 @@ module _ (w : WorldRead) (ts : Threads) where
   unfolding startView begunOf groundOf worldAnswer worldView andThen begin stateView groundView netView
   begun-gives z e = rw (z, e)
 
--- a state that begins is fresh
-pub begun-fresh : (N : Tables.Net) (E : Estimate) (ts : Threads) (number row : ℕ) → length (N .lines) ≡ 2560 → length (N .tuples) ≡ 1536 → ts .count ≤ 64 → Fresh (begunOf N E ts number row)
+-- a state that begins holds no more than it may: nothing was brought yet
+pub begun-fits : (N : Tables.Net) (E : Estimate) (ts : Threads) (number row : ℕ) → length (N .lines) ≡ 2560 → length (N .tuples) ≡ 1536 → ts .count ≤ 64 → Invariant (stateView (begunOf N E ts number row)) → Fits (begunOf N E ts number row)
 unfolding begunOf
-begun-fresh N E ts number row lines tuples few = record {
+begun-fits N E ts number row lines tuples few i = record {
   lines-long = lines;
   arrivals-long = refl;
   sound-long = refl;
   tuples-long = tuples;
   threads-few = few;
-  own-all = refl;
-  none-brought = refl;
+  own-few = omega arith;
+  arrivals-few = omega arith;
+  sound-is = λ i l h k. absurd (omega arith);
+  invariant = i;
 }
 
 -- what was read
@@ -111,21 +115,11 @@ module _ (w : WorldRead) (net estimate : List ℕ) (e : worldAnswer w ≡ readBo
         placed = λ i h. omega (arith, root i h .placed, ok .sites-few);
       }
 
-  pub started : (st : State) → startView st ≡ andThen (worldAnswer w) (λ x. gives (begin x)) → Fresh st → Started net estimate st
+  pub started : (st : State) → startView st ≡ andThen (worldAnswer w) (λ x. gives (begin x)) → (Invariant (stateView st) → Fits st) → Started net estimate st
   unfolding start startView
   started st q f =
       let r = q ∙ ap (λ (a : Answer World). andThen a (λ x. gives (begin x))) e in
       record {
         result = r;
-        fits = λ z. record {
-          lines-long = f .lines-long;
-          arrivals-long = f .arrivals-long;
-          sound-long = f .sound-long;
-          tuples-long = f .tuples-long;
-          threads-few = f .threads-few;
-          own-few = omega (arith, f .own-all);
-          arrivals-few = omega (arith, f .none-brought);
-          sound-is = λ i l h k. absurd (omega (arith, f .none-brought));
-          invariant = start-gives net estimate (stateView st) (sym r ∙ ap (λ (b : Bool). cond b (gives (stateView st)) (refused (st .run .told .number) (st .run .told .row))) (eq-eqb (st .run .told .number) 0 z));
-        };
+        fits = λ z. f (start-gives net estimate (stateView st) (sym r ∙ ap (λ (b : Bool). cond b (gives (stateView st)) (refused (st .run .told .number) (st .run .told .row))) (eq-eqb (st .run .told .number) 0 z)));
       }

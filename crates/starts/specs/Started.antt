@@ -5,7 +5,7 @@ use mathlib.Core.Bool.{cond}
 use mathlib.Core.List.{List}
 use Prim.Native.Nat.{ℕ, _*_, _<_, _≤_}
 use lib.Dec.{eqb}
-use lib.ListN.{length, getD, replicate}
+use lib.ListN.{getD, replicate}
 use Rattle.klaim.specs.Reader.{Answer, refused, gives}
 use Rattle.klaim.specs.State as Spec
 use Rattle.tables.specs.declared.Net.{Net}
@@ -24,16 +24,6 @@ startView st = cond (eqb (st .run .told .number) 0) (gives (stateView st)) (refu
 pub record Started (net estimate : List ℕ) (st : State) : Type 0 where
   pub result : startView st ≡ Spec.start net estimate
   pub fits : st .run .told .number ≡ 0 → Fits st
-
--- nothing was brought yet: all lines are the net's, the threads lie within their array, and the tables are as long as their types say
-pub record Fresh (st : State) : Type 0 where
-  pub lines-long : length (st .lines) ≡ 2560
-  pub arrivals-long : length (st .arrivals) ≡ 256
-  pub sound-long : length (st .sound) ≡ 256
-  pub tuples-long : length (st .tuples) ≡ 1536
-  pub threads-few : st .run .nthreads ≤ 64
-  pub own-all : st .own ≡ st .nlines
-  pub none-brought : st .narrivals ≡ 0
 
 -- each of n roots stands at one of 32 sites
 pub record RootsPlaced (roots : List ℕ) (n : ℕ) : Type 0 where

@@ -7,10 +7,13 @@ ghost use Rattle.sets.specs.Lists.{concat};
 ghost use Rattle.klaim.specs.Net as Spec;
 ghost use Rattle.klaim.specs.Reader.{gives, andThen};
 ghost use Rattle.klaim.specs.State.{settle, rootThread, begin as beginOf};
+ghost use Rattle.klaim.specs.Invariant.{Invariant};
 ghost use Rattle.tables.specs.View.{linesView, rootsView};
 ghost use Rattle.threads.specs.View.{threadView, threadsView};
 ghost use Rattle.worlds.specs.World.{worldAnswer};
-ghost use Rattle.starts.specs.Started.{Started, Fresh, RootsPlaced, startView, groundOf, begunOf};
+ghost use Rattle.state.specs.View.{stateView};
+ghost use Rattle.state.specs.Fits.{Fits};
+ghost use Rattle.starts.specs.Started.{Started, RootsPlaced, startView, groundOf, begunOf};
 use klaim::Site;
 use state::Ground;
 use state::Run;
@@ -162,7 +165,7 @@ fn begun(net: Net, estimate: Estimate, list: Threads, number: u8, row: usize) ->
 fn begin(w: WorldRead) -> State
     requires { ⌜ (w .number ≡ 0 → RootsPlaced (w .net .roots) (w .net .nroots)) ⌝ }
     ensures { λ st. ⌜ startView st ≡ andThen (worldAnswer w) (λ x. gives (beginOf x)) ⌝ }
-    ensures { λ st. ⌜ Fresh st ⌝ }
+    ensures { λ st. ⌜ (Invariant (stateView st) → Fits st) ⌝ }
 {
     let number = w.number;
     let row = w.row;

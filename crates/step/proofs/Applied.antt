@@ -3,7 +3,7 @@
 use mathlib.Core.Path.{_≡_, refl, sym, ap, ap₂, _∙_}
 use mathlib.Core.Bool.{Bool, true, false, not, cond}
 use mathlib.Core.List.{List, [], _∷_, _++_}
-use Prim.Native.Nat.{ℕ, zero, suc, _+_, _-_, _<_, _≤_}
+use Prim.Native.Nat.{ℕ, _+_, _-_, _<_, _≤_}
 use native.Mathlib.Omega.{arith}
 use lib.Dec.{eqb}
 use lib.ListN.{length, take, length-append}
@@ -41,12 +41,6 @@ threads-view nil more n k items kept all xs ys l c p q =
 pub rows-view : (bs : List ℕ) {count n : ℕ} {ts : List (List ℕ)} → count ≡ n → rowsView n bs ≡ ts → rowsView count bs ≡ ts
 rows-view bs c q = ap (λ (j : ℕ). rowsView j bs) c ∙ q
 
-splice-any : {A : Type 0} (k : ℕ) (ys l : List A) → k < length l → length (splice k ys l) ≡ length l - 1 + length ys
-unfolding splice
-splice-any k ys [] h = absurd (omega arith)
-splice-any zero ys (x ∷ l) h = omega (arith, length-append ys l)
-splice-any (suc k) ys (x ∷ l) h = omega (arith, splice-any k ys l (omega arith))
-
 total : (nil more : Bool) (x y : Spec.Thread) (n left count : ℕ) → 0 < n → left ≡ cond nil (n - 1) n → count ≡ cond more (left + 1) left → n - 1 + length (cond nil [] (x ∷ [])) + length (cond more (y ∷ []) []) ≡ count
 total true true x y n left count h l c = omega arith
 total true false x y n left count h l c = omega arith
@@ -58,7 +52,7 @@ rows-total change n m ts row e h = go (eqb change 1) (eqb change 2) refl
   where
     go : (a b : Bool) → eqb change 2 ≡ b → length (cond a (ts ++ (row ∷ [])) (cond b (splice m [] ts) ts)) ≡ cond a (n + 1) (cond b (n - 1) n)
     go true b q = length-append ts (row ∷ []) ∙ ap (λ (j : ℕ). j + 1) e
-    go false true q = splice-long m ts (omega (arith, h (eqb-eq q))) ∙ ap (λ (j : ℕ). j - 1) e
+    go false true q = omega (arith, splice-long m [] ts (omega (arith, h (eqb-eq q))), e)
     go false false q = e
 
 module _ (st : State) (k m : ℕ) (v : Move) (s : Sizes) (w : Measured (linesView (st .nlines) (st .lines)) (st .run .nthreads) (st .run .ntuples) v s) where
@@ -93,7 +87,7 @@ module _ (st : State) (k m : ℕ) (v : Move) (s : Sizes) (w : Measured (linesVie
         ap length threads-is
         ∙ length-append (splice k (cond (s .nil) [] (threadView (v .thread) ∷ [])) (threadsView (st .run .nthreads) (st .run .threads))) (cond (s .more) (threadView (v .added) ∷ []) [])
         ∙ ap (λ (j : ℕ). j + length (cond (s .more) (threadView (v .added) ∷ []) []))
-        (splice-any k (cond (s .nil) [] (threadView (v .thread) ∷ [])) (threadsView (st .run .nthreads) (st .run .threads)) (omega (arith, threads-long (st .run .nthreads) (st .run .threads) few))
+        (splice-long k (cond (s .nil) [] (threadView (v .thread) ∷ [])) (threadsView (st .run .nthreads) (st .run .threads)) (omega (arith, threads-long (st .run .nthreads) (st .run .threads) few))
         ∙ ap (λ (j : ℕ). j - 1 + length (cond (s .nil) [] (threadView (v .thread) ∷ []))) (threads-long (st .run .nthreads) (st .run .threads) few))
         ∙ total (s .nil) (s .more) (threadView (v .thread)) (threadView (v .added)) (st .run .nthreads) (s .left) (s .threads) (omega arith) (w .leftIs) (w .threadsIs)
 

@@ -10,14 +10,14 @@ use borrow.Author.Tests.{ltb-true, leb-true}
 use Rattle.sets.specs.Lists.{_&_, imp, all, only}
 use Rattle.sets.proofs.Lists.{and-l, and-r, low-first, low-rest}
 use Rattle.klaim.specs.Limits.{siteLimit, boxLimit, varLimit, lineLimit}
-use Rattle.klaim.specs.Rows.{Row, rowLine, groupN, groupD, groupL, groupQ, groupB}
+use Rattle.klaim.specs.Rows.{Row, groupN, groupD, groupL, groupB}
 use Rattle.klaim.specs.Reader.{inLimits}
 use Rattle.text.specs.Fields.{sitesTo}
-use Rattle.lines.specs.Lines.{fitAll, lineOf, lineGood}
+use Rattle.lines.specs.Lines.{fitAll}
 use Rattle.forms.specs.declared.RowData.{RowData}
 use Rattle.forms.specs.Forms.{rowData, pairGroup, tupleGroup, rowGood}
 use Rattle.forms.proofs.RowForms.{rowAs, numbers, pair-some, tuple-some}
-use Rattle.forms.proofs.Views.{row-of, view-n, view-pair, view-d, view-tuple, view-l, view-b, view-q}
+use Rattle.forms.proofs.Views.{row-of, view-n, view-pair, view-d, view-tuple, view-l, view-b}
 
 -- the numbers of a row within limits
 pub record Within (R : Row) : Type 0 where
@@ -73,12 +73,6 @@ pub record BoundRow (r : RowData) : Type 0 where
   pub variable-low : r .variable < 32
   pub site-low : r .line .target .number < 32
 
--- a Q row
-pub record LineRow (r : RowData) : Type 0 where
-  pub row-is : rowData r ≡ rowLine (r .own) (lineOf (r .line))
-  pub line-good : lineGood (r .line) ≡ true
-  pub own-low : r .own < 256
-
 module _ (r : RowData) (G : rowGood r ≡ true) (L : inLimits (rowData r) ≡ true) where
   pub size-row : r .group ≡ groupN → SizeRow r
   unfolding inLimits imp
@@ -126,11 +120,3 @@ module _ (r : RowData) (G : rowGood r ≡ true) (L : inLimits (rowData r) ≡ tr
       let u = rw s at (within (rowData r) L .vars-low) in
       let l = rw s at (within (rowData r) L .sites-low) in
       record { row-is = s; variable-low = low-first 32 _ _ u; site-low = low-first 32 _ _ l }
-
-  pub line-row : r .group ≡ groupQ → LineRow r
-  unfolding rowLine
-  line-row e =
-      let v = view-q r G e in
-      let s = row-of r _ (λ z. omega arith) (v .0) in
-      let q = rw s at (within (rowData r) L .lines-low) in
-      record { row-is = s; line-good = v .1; own-low = low-first 256 _ _ q }

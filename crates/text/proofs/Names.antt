@@ -5,7 +5,7 @@ use mathlib.Core.Logic.{_⊎_, inl, inr}
 use mathlib.Core.Bool.{Bool, true, false, not, cond}
 use borrow.Author.Tests.{not-true}
 use mathlib.Core.List.{List, [], _∷_}
-use mathlib.Core.Option.{Option, none, some}
+use mathlib.Core.Option.{Option·none-ne-some, Option, none, some}
 use Prim.Native.Nat.{ℕ, zero, suc, _+_, _≤_, _<_}
 use native.Mathlib.Nat.{not-le-of-lt}
 use Prim.Native.String.{String}
@@ -60,16 +60,13 @@ picked-slot false false false true b s u = refl
 picked-slot false false false false b s u = refl
 
 -- `!u` is nothing else
-none-some : {A : Type 0} {x : A} → none ≡ some x → ⊥
-none-some {A} q = let z : _≡_ {A = ℕ} 0 1 = ap (λ (o : Option A). elim o [ none ↦ 0 | some y ↦ 1 ]) q in omega arith
-
 bound-only : (f : List ℕ) (x : Slot) → bindField f ≡ some x → (siteField f ≡ none) × (towards f ≡ none) × (locField f ≡ none)
 unfolding bindField given locField towards siteField varField isSelf lettered same text _&_ otherwise _>>=_
-bound-only [] x q = absurd (none-some q)
+bound-only [] x q = absurd (Option·none-ne-some _ q)
 bound-only (a ∷ f) x q = go (eqb a 33) refl q
   where
     go : (t : Bool) → eqb a 33 ≡ t → given t (varField f >>= λ u. some (Bind (record { 0 = u }))) ≡ some x → (siteField (a ∷ f) ≡ none) × (towards (a ∷ f) ≡ none) × (locField (a ∷ f) ≡ none)
-    go false e q = absurd (none-some q)
+    go false e q = absurd (Option·none-ne-some _ q)
     go true e q = let p : a ≡ 33 = eqb-eq e in rw p (refl, refl, refl)
 
 -- the readings of a field make its name
@@ -136,18 +133,6 @@ placed-low n (w ∷ ws) f = go (same f (text w)) (placed-low (suc n) ws f)
     go : (t : Bool) → placeIn (suc (suc n)) ws f ≤ suc n + length ws → cond t (suc n) (placeIn (suc (suc n)) ws f) ≤ n + suc (length ws)
     go true h = omega arith
     go false h = omega arith
-
-pub placed-is : (n k : ℕ) (ws : List String) (f : List ℕ) → placeIn (suc n) ws f ≡ suc n + k → f ≡ text (getD ws k "")
-unfolding placeIn
-placed-is n k [] f h = absurd (omega arith)
-placed-is n k (w ∷ ws) f h = go (same f (text w)) refl k h (λ j. placed-is (suc n) j ws f) (placed-range (suc (suc n)) ws f)
-  where
-    go : (t : Bool) → same f (text w) ≡ t → (k : ℕ) → cond t (suc n) (placeIn (suc (suc n)) ws f) ≡ suc n + k → ((j : ℕ) → placeIn (suc (suc n)) ws f ≡ suc (suc n) + j → f ≡ text (getD ws j "")) → (placeIn (suc (suc n)) ws f ≡ 0) ⊎ (suc (suc n) ≤ placeIn (suc (suc n)) ws f) → f ≡ text (getD (w ∷ ws) k "")
-    go true e zero h ih r = same-eq f (text w) e
-    go true e (suc k) h ih r = absurd (omega arith)
-    go false e zero h ih (inl r) = absurd (omega arith)
-    go false e zero h ih (inr r) = absurd (omega arith)
-    go false e (suc k) h ih r = ih k (omega arith)
 
 pub placed-none : (n : ℕ) (ws : List String) (f : List ℕ) → placeIn (suc n) ws f ≡ 0 → (w : String) → Elem w ws → same f (text w) ≡ false
 unfolding placeIn

@@ -1,8 +1,8 @@
 -- Laws of a thread's bindings and of the list of threads.
 -- Assumes nothing.
-use mathlib.Core.Path.{_≡_, refl, sym, ap, _∙_}
+use mathlib.Core.Path.{_≡_, sym, ap, _∙_}
 use mathlib.Core.Bool.{Bool, true, false, cond}
-use mathlib.Core.List.{List, [], _∷_, _++_, map}
+use mathlib.Core.List.{List, [], _∷_, _++_, map, map-append}
 use mathlib.Core.Option.{Option, none, some, Option·getD}
 use Prim.Native.Nat.{ℕ, suc, _+_, _*_, _^_, _<_, _≤_}
 use native.Mathlib.Omega.{arith}
@@ -13,7 +13,7 @@ use lib.ListN.{length, getD, getElem?, set, take, length-set, length-map}
 use lib.Seq.{getD-set-same, getD-set-other, ext-getD, take-suc-set, take-set-lt, length-take-le, getD-take}
 use Rattle.sets.specs.Lists.{either, splice, table, tableFrom, _&_}
 use Rattle.sets.specs.Bits.{has, mem, join}
-use Rattle.sets.proofs.Lists.{eq-eqb, or-r, map-append}
+use Rattle.sets.proofs.Lists.{eq-eqb, or-r, or-false}
 use Rattle.sets.proofs.Tables.{getD-table, length-table, same-table, Filled}
 use Rattle.sets.proofs.Bits.{has-or, has-none}
 use Rattle.klaim.specs.declared.Site.{Site}
@@ -74,14 +74,10 @@ module _ (b : ℕ) (ss : List Site) (u : ℕ) (s : Site) (low : u < 32) (long : 
       ∙ ap (λ (x : Site). some (x .0)) (getD-set-same ss u s noSite (omega arith))
       ∙ sym (getD-set-same (bindingsView b ss) u (some (s .0)) none (omega (arith, bindings-long b ss))))
   same-binding v (no n) h =
-      ap (λ (x : Bool). cond x (some (getD (set ss u s) v noSite .0)) none) (has-or b (2 ^ u) v ∙ ap (either (mem v b)) (mem-single v u ∙ ne-eqb u v (λ e. n (sym e))) ∙ or-none (mem v b))
+      ap (λ (x : Bool). cond x (some (getD (set ss u s) v noSite .0)) none) (has-or b (2 ^ u) v ∙ ap (either (mem v b)) (mem-single v u ∙ ne-eqb u v (λ e. n (sym e))) ∙ or-false (mem v b))
       ∙ ap (λ (x : Site). cond (mem v b) (some (x .0)) none) (getD-set-other ss u v s noSite n)
       ∙ sym (bindings-at b ss v h)
       ∙ sym (getD-set-other (bindingsView b ss) u v (some (s .0)) none n)
-    where
-      or-none : (a : Bool) → either a false ≡ a
-      or-none true = refl
-      or-none false = refl
 
   pub bound-view : bindingsView (join b (2 ^ u)) (set ss u s) ≡ set (bindingsView b ss) u (some (s .0))
   bound-view =

@@ -1,22 +1,21 @@
 -- Laws of lists with one place changed or taken out, and of the loop that takes it out.
 -- Assumes nothing.
 use mathlib.Core.Path.{_≡_, refl, sym, ap, _∙_}
-use mathlib.Core.List.{List, [], _∷_, map}
-use mathlib.Core.Option.{none, some}
-use Prim.Native.Nat.{ℕ, zero, suc, _-_, _<_, _≤_}
+use mathlib.Core.List.{List, [], _∷_, map, map-append}
+use mathlib.Core.Option.{Option·none-ne-some, none, some}
+use Prim.Native.Nat.{ℕ, zero, suc, _-_, _<_, _≤_, _+_}
 use native.Mathlib.Omega.{arith}
-use lib.ListN.{length, getD, getElem?, set, take}
+use lib.ListN.{length, getD, getElem?, set, take, length-append}
 use lib.Seq.{getD-take, ext-getD, length-take-le}
 use Rattle.sets.specs.Lists.{splice}
-use Rattle.sets.proofs.Lists.{map-append}
 use Rattle.sets.proofs.Tables.{Filled}
 
 module _ {A : Type 0} where
-  pub splice-long : (k : ℕ) (l : List A) → k < length l → length (splice k [] l) ≡ length l - 1
+  pub splice-long : (k : ℕ) (ys l : List A) → k < length l → length (splice k ys l) ≡ length l - 1 + length ys
   unfolding splice
-  splice-long k [] h = absurd (omega arith)
-  splice-long zero (x ∷ l) h = omega arith
-  splice-long (suc k) (x ∷ l) h = omega (arith, splice-long k l (omega arith))
+  splice-long k ys [] h = absurd (omega arith)
+  splice-long zero ys (x ∷ l) h = omega (arith, length-append ys l)
+  splice-long (suc k) ys (x ∷ l) h = omega (arith, splice-long k ys l (omega arith))
 
   pub splice-low : (k : ℕ) (l : List A) (j : ℕ) (d : A) → j < k → getD (splice k [] l) j d ≡ getD l j d
   unfolding splice
@@ -58,7 +57,7 @@ module _ {A : Type 0} where
 
   pub moved-all : {d : A} {k n : ℕ} {l₀ l : List A} → Filled d (λ j. getD (splice k [] l₀) j d) l₀ l n → k ≤ n → n < length l₀ → (m : ℕ) → suc n ≡ m → take n l ≡ splice k [] (take m l₀)
   moved-all {d} {k} {n} {l₀} {l} F hk hn m e =
-      same-take d n l (splice k [] l₀) (omega (arith, F .long)) (omega (arith, splice-long k l₀ (omega arith))) (F .done)
+      same-take d n l (splice k [] l₀) (omega (arith, F .long)) (omega (arith, splice-long k [] l₀ (omega arith))) (F .done)
       ∙ take-splice k n l₀ hk
       ∙ ap (λ (j : ℕ). splice k [] (take j l₀)) e
 
@@ -75,10 +74,7 @@ module _ {A : Type 0} where
 
 module _ {A B : Type 0} where
   pub map-some : (f : A → B) (l : List A) (k : ℕ) {x : A} → getElem? l k ≡ some x → getElem? (map f l) k ≡ some (f x)
-  map-some f [] k e = absurd (no-none e)
-    where
-      no-none : {x : A} → none ≡ some x → ⊥
-      no-none q = let z : _≡_ {A = ℕ} 0 1 = cc in omega arith
+  map-some f [] k e = absurd (Option·none-ne-some _ e)
   map-some f (y ∷ l) zero {x} e =
       let q : y ≡ x = cc in
       rw q

@@ -47,7 +47,7 @@ pub moved-all : (n m : ℕ) {l₀ l : List ℕ} → Moved (6 * m) l₀ l (6 * (n
 unfolding rowsView
 moved-all n m {l₀} {l} M h t =
     ext-getD [] (table (n - 1) (rowAt l)) (splice m [] (table n (rowAt l₀)))
-    (length-table (n - 1) (rowAt l) ∙ omega (arith, splice-long m (table n (rowAt l₀)) (omega (arith, length-table n (rowAt l₀))), length-table n (rowAt l₀)))
+    (length-table (n - 1) (rowAt l) ∙ omega (arith, splice-long m [] (table n (rowAt l₀)) (omega (arith, length-table n (rowAt l₀))), length-table n (rowAt l₀)))
     (λ k u. let v : k < n - 1 = omega (arith, length-table (n - 1) (rowAt l)) in getD-table (n - 1) (rowAt l) k [] v ∙ here k v (decLt k m))
   where
     here : (k : ℕ) → k < n - 1 → Dec (k < m) → rowAt l k ≡ getD (splice m [] (table n (rowAt l₀))) k []

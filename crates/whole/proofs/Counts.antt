@@ -1,7 +1,7 @@
 -- Laws of how often lines are named.
 -- Assumes nothing.
 use mathlib.Core.Path.{_≡_, refl, sym, ap, subst, _∙_}
-use mathlib.Core.List.{List, [], _∷_, map}
+use mathlib.Core.List.{List, [], _∷_, map, map-append}
 use Prim.Native.Nat.{ℕ, zero, suc, _+_, _*_, _<_, _≤_, min}
 use native.Mathlib.Omega.{arith}
 use native.Mathlib.Decide.{ℕ-discrete}
@@ -10,7 +10,7 @@ use lib.ListN.{getD, set, length-set, replicate, getD-replicate}
 use lib.Seq.{getD-set-same, getD-set-other}
 use borrow.Author.Tests.{ne-eqb}
 use Rattle.sets.specs.Lists.{all, keep, concat, table, tableFrom, below, count, _⧺_}
-use Rattle.sets.proofs.Lists.{eq-eqb, cat-append, map-append, count-cat, count-one, all-same}
+use Rattle.sets.proofs.Lists.{eq-eqb, cat-append, count-cat, count-one, all-same}
 use Rattle.sets.proofs.Tables.{in-below, table-snoc}
 use Rattle.sets.proofs.Runs.{cat-none, cat-assoc, concat-append, concat-one}
 use Rattle.klaim.specs.Process.{children}

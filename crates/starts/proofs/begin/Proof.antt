@@ -2,8 +2,12 @@ use mathlib.Core.Path.{_≡_, refl, ap, subst, _∙_, sym}
 use native.Mathlib.Omega.{arith}
 use lib.ListN.{length}
 use Rattle.tables.specs.View.{netView}
-use Rattle.starts.specs.Started.{startView, Fresh}
-use Rattle.starts.proofs.Laws.{begun-refused, begun-gives, begun-fresh}
+use Rattle.klaim.specs.Invariant.{Invariant}
+use Rattle.state.specs.declared.State.{State}
+use Rattle.state.specs.View.{stateView}
+use Rattle.state.specs.Fits.{Fits}
+use Rattle.starts.specs.Started.{startView}
+use Rattle.starts.proofs.Laws.{begun-refused, begun-gives, begun-fits}
 use borrow.Author.Needs.{needs}
 use Rattle.starts.proofs.begin.Statement.{statement}
 use Rattle.starts.proofs.begin.Tie as tie
@@ -27,7 +31,7 @@ returns : tie.Need-returns
 returns c =
     let s = c .before .before .before .before .before in
     let e = c .begun .ensures in
-    (ap startView e ∙ begun-refused _ _ (c .before .before .if1 .taken), subst Fresh (sym e) (begun-fresh _ _ _ _ _ (lines-long s) (tuples-long s) (omega (arith, c .before .no-threads .ensures .0))))
+    (ap startView e ∙ begun-refused _ _ (c .before .before .if1 .taken), subst (λ (st : State). Invariant (stateView st) → Fits st) (sym e) (begun-fits _ _ _ _ _ (lines-long s) (tuples-long s) (omega (arith, c .before .no-threads .ensures .0))))
 
 root-threads-requires : tie.Need-root-threads-requires
 root-threads-requires c κs =
@@ -46,7 +50,7 @@ returns-2 c =
     let z = c .before .before .before .before .before .before .if1 .left in
     let f = c .before .root-threads .ensures in (
       ap startView e ∙ begun-gives (s .args .t1) (c .before .root-threads .result) z (f .1 (netView (s .args .t1 .net)) refl refl),
-      subst Fresh (sym e) (begun-fresh _ _ _ _ _ (lines-long s) (tuples-long s) (f .0)),
+      subst (λ (st : State). Invariant (stateView st) → Fits st) (sym e) (begun-fits _ _ _ _ _ (lines-long s) (tuples-long s) (f .0)),
     )
 
 pub begin-spec : {M : Type 1} → statement M

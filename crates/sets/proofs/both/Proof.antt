@@ -1,6 +1,6 @@
 use Rattle.sets.specs.Lists.{_&_}
-use Rattle.lines.proofs.both.Statement.{statement}
-use Rattle.lines.proofs.both.Tie as tie
+use Rattle.sets.proofs.both.Statement.{statement}
+use Rattle.sets.proofs.both.Tie as tie
 
 returns : tie.Need-returns
 unfolding _&_
