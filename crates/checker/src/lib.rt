@@ -10,6 +10,7 @@ ghost use Rattle.klaim.specs.Reader.{gives};
 ghost use Rattle.worlds.specs.World.{worldView};
 ghost use Rattle.verdict.specs.Verdict.{verdictView};
 ghost use Rattle.checker.specs.Check.{WellFormed, Checks, answerView};
+use tables::REPORT;
 use verdict::Verdict;
 use worlds::WorldRead;
 
@@ -20,8 +21,6 @@ pub enum Answer {
     BrokenLine(u16),
     Refused(u8, usize),
 }
-
-const REPORT: usize = 1024;
 
 const SHORT_BUFFER: u8 = 9;
 

@@ -17,7 +17,7 @@ const REPORT: usize = 1024;
 const EVERY: u8 = 31;
 
 // How many rights a set has.
-pub fn size_of(rights: u8) -> u32
+fn size_of(rights: u8) -> u32
     ensures { λ r. ⌜ r ≡ size rights ⌝ }
 {
     let few = rights % 2 + rights / 2 % 2 + rights / 4 % 2;

@@ -12,11 +12,8 @@ ghost use Rattle.tables.specs.View.{linesView, LowLoc, InForm};
 ghost use Rattle.flow.specs.Part.{partOf};
 use klaim::Loc;
 use tables::Action;
-
-// Bytes of a sandbox's row in its table: one for each site, then one for `self`.
-const ROW: usize = 33;
-
-const OWN: usize = 32;
+use tables::BOX;
+use tables::OWN;
 
 // The reach of a target or field, `places` being the place set: the sites that it may stand for.
 pub fn reach(x: Loc, places: u32, binds: &[u32; 32]) -> u32
@@ -38,8 +35,8 @@ pub fn box_at(boxes: &[u8; 1056], k: u8, l: u8, t: u8) -> u8
     requires { ⌜ (k < 32) × (t < 32) ⌝ }
     ensures { λ r. ⌜ ((N : Net) → N .boxes ≡ now (boxes .entry) → r ≡ boxAt N k l t) ⌝ }
 {
-    let own = ROW * (k as usize) + OWN;
-    let at = ROW * (k as usize) + (t as usize);
+    let own = BOX * (k as usize) + OWN;
+    let at = BOX * (k as usize) + (t as usize);
     if t == l {
         return boxes[at] & boxes[own];
     }
@@ -51,12 +48,12 @@ fn box_of(boxes: &[u8; 1056], k: u8, t: u8) -> u8
     requires { ⌜ (k < 32) × (t < 32) ⌝ }
     ensures { λ r. ⌜ ((N : Net) → N .boxes ≡ now (boxes .entry) → r ≡ box N k t) ⌝ }
 {
-    let at = ROW * (k as usize) + (t as usize);
+    let at = BOX * (k as usize) + (t as usize);
     boxes[at]
 }
 
 // What sandbox k gives on site t, evaluated at any of the places: only where t is the one place does `self` count.
-pub fn box_over(boxes: &[u8; 1056], k: u8, places: u32, t: u8) -> u8
+fn box_over(boxes: &[u8; 1056], k: u8, places: u32, t: u8) -> u8
     requires { ⌜ (k < 32) × (t < 32) ⌝ }
     ensures { λ r. ⌜ ((N : Net) → N .boxes ≡ now (boxes .entry) → r ≡ joins (λ l. boxAt N k l t) (sites places)) ⌝ }
 {

@@ -151,7 +151,7 @@ pub struct Words {
 }
 
 // The words of a cut row from its third field on.
-pub fn words_at(row: &[u8], edges: &[usize; EDGES], n: usize) -> Words
+fn words_at(row: &[u8], edges: &[usize; EDGES], n: usize) -> Words
     requires { ⌜ Cut (now row) (now edges) n ⌝ }
     ensures { λ r. ⌜ Said (drop 2 (split comma (now (row .entry)))) r ⌝ }
 {

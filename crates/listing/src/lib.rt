@@ -12,13 +12,10 @@ ghost use Rattle.worlds.specs.World.{worldView, worldAnswer};
 ghost use Rattle.checker.specs.Check.{WellFormed};
 ghost use Rattle.writer.specs.Wrote.{Wrote};
 ghost use Rattle.listing.specs.Lines.{entryV, lineU, linesU, acceptedList, Counts};
+use tables::REPORT;
+use tables::SITES;
 use verdict::Verdict;
 use worlds::WorldRead;
-
-// The limits of document 01.
-const SITES: usize = 32;
-
-const REPORT: usize = 1024;
 
 // The longest listing: 14 bytes of `accepted`, 1,024 V rows of 16, 32 U rows of 19.
 pub const LISTING: usize = 17006;
@@ -35,7 +32,7 @@ fn put_entry(out: &mut [u8], at: usize, i: usize, rights: u8) -> usize
 }
 
 // The V rows of a report, in byte order, each of at most 16 bytes.
-pub fn put_rows_v(out: &mut [u8], at: usize, report: &[u8; 1024]) -> usize
+fn put_rows_v(out: &mut [u8], at: usize, report: &[u8; 1024]) -> usize
     requires { ⌜ (length (now report) ≡ reportSize) × (at + 16384 ≤ length (now out)) ⌝ }
     ensures { λ r. ⌜ (r ≤ at + 16384) × Wrote (now (out .entry)) (now (out .exit)) at (rowsV (now (report .entry))) r ⌝ }
 {
@@ -58,7 +55,7 @@ fn put_line(out: &mut [u8], at: usize, s: u8, p: u32, q: u32) -> usize
 }
 
 // The U rows of the sites below n, each of at most 19 bytes.
-pub fn put_rows_u<'a>(
+fn put_rows_u<'a>(
     out: &mut [u8],
     at: usize,
     held: &'a [u32; 32],
@@ -78,7 +75,7 @@ pub fn put_rows_u<'a>(
 }
 
 // The listing of an accepted net: the rights reported, the V rows, the U rows.
-pub fn put_listing<'a>(
+fn put_listing<'a>(
     out: &mut [u8],
     report: &'a [u8; 1024],
     held: &'a [u32; 32],

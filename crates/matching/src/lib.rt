@@ -17,7 +17,7 @@ ghost use Rattle.matching.specs.Index.{inColumn, words, inRows, inIndex,
 const MANY: u32 = 257;
 
 // All sites, and half their number.
-const ANY: u32 = 4294967295;
+pub const ANY: u32 = 4294967295;
 
 const HALF: u32 = 16;
 

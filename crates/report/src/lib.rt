@@ -149,7 +149,7 @@ fn evals_of(action: Action) -> Evals
 }
 
 // What the eval lines of line q add, those inside bodies too, `places` being its place set.
-pub fn add_evals(
+fn add_evals(
     bytes: &mut [u8; 1024],
     lines: &[u8; 2560],
     n: usize,

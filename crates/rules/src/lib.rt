@@ -13,9 +13,7 @@ ghost use Rattle.rules.specs.Masks.{wanted as wantedOf, allowed as allow
 use flow::UseMap;
 use klaim::Loc;
 use klaim::Slot;
-
-// All sites.
-const ANY: u32 = 4294967295;
+use matching::ANY;
 
 // What a field of a template agrees with: a value's reach, `!u` any site.
 fn wanted(slot: Slot, places: u32, binds: &[u32; 32]) -> u32

@@ -11,15 +11,12 @@ ghost use Rattle.forms.specs.Forms.{rowData, rowGood, pairGroup, tupleGroup};
 ghost use Rattle.tables.specs.View.{linesView, rowsView, rootsView};
 ghost use Rattle.stores.specs.Stores.{siteGroup};
 use forms::RowData;
+use tables::BOX;
+use tables::OWN;
 use tables::ROOT;
 use tables::SITES;
 use text::Name;
 use text::SITE;
-
-// Bytes of a sandbox's row in its table: one for each site, then one for `self`.
-const BOX: usize = 33;
-
-const OWN: usize = 32;
 
 fn number(name: Name) -> usize
     ensures { λ r. ⌜ r ≡ name .number ⌝ }

@@ -26,6 +26,11 @@ pub const FIELDS: usize = 4;
 
 pub const REPORT: usize = 1024;
 
+// Bytes of a sandbox: one for each site, then one for `self`.
+pub const BOX: usize = 33;
+
+pub const OWN: usize = 32;
+
 // Bytes of a tuple, and of a root: its site, then its line.
 pub const TUPLE: usize = 6;
 

@@ -98,7 +98,7 @@ pub fn home_policy(homes: &[u8; 1024], s: u8) -> [u8; 32]
 }
 
 // Sandbox k, evaluated at site l.
-pub fn box_policy(boxes: &[u8; 1056], k: u8, l: u8) -> [u8; 32]
+fn box_policy(boxes: &[u8; 1056], k: u8, l: u8) -> [u8; 32]
     requires { ⌜ k < 32 ⌝ }
     ensures { λ r. ⌜ ((N : Net) → N .boxes ≡ now (boxes .entry) → r ≡ boxPolicy N k l) ⌝ }
 {
