@@ -38,7 +38,7 @@ reportSize = 1024
 abbrev pub inputLimit : ℕ
 inputLimit = 65536
 
--- a policy of every site has a byte for each pair of sites, as the report has
+-- the home policies have a byte for each pair of sites, as the report has, and so have the E rows
 abbrev pub policySize : ℕ
 policySize = 1024
 

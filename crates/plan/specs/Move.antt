@@ -40,7 +40,7 @@ pub record Guests (st : Spec.State) (l : ℕ) (lines : List ℕ) (n : ℕ) (boxe
   pub arrivalsIs : st .arrivals ≡ take narrivals arrivals
   pub soundIs : (i : ℕ) → i < narrivals → mem l (getD sets i 0) ≡ sound (st .net) (st .estimate) l (tree (st .lines) (getD arrivals i 0))
 
--- and these tuples
+-- a state has these tables, and these tuples
 pub record Tables (st : Spec.State) (l : ℕ) (lines : List ℕ) (n : ℕ) (boxes binds arrivals : List ℕ) (narrivals : ℕ) (sets tuples : List ℕ) (ntuples : ℕ) : Type 0 where
   pub guests : Guests st l lines n boxes binds arrivals narrivals sets
   pub tuplesIs : st .tuples ≡ rowsView ntuples tuples
@@ -54,7 +54,7 @@ pub record Admits (lines : List ℕ) (n : ℕ) (arrivals : List ℕ) (narrivals 
   pub arrivalsPresent : (r : ℕ) → Elem r (take narrivals arrivals) → r < n
   pub setsLong : length sets ≡ 256
 
--- of all tables, and of the thread that acts
+-- what it gives of all tables, and of the thread that acts
 pub record Plannable (lines : List ℕ) (n : ℕ) (arrivals : List ℕ) (narrivals : ℕ) (sets tuples : List ℕ) (ntuples : ℕ) (th : Thread) : Type 0 where
   pub admits : Admits lines n arrivals narrivals sets
   pub linesFew : n ≤ 256

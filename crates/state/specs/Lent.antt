@@ -40,7 +40,7 @@ pub record Handed (homes boxes binds lines : List ℕ) (nlines : ℕ) (arrivals 
   pub parts : Parts state homes boxes binds lines nlines arrivals narrivals sound tuples run
   pub fits : Fits state
 
--- the bytes of a table of n tuples, of which a step has made k
+-- the bytes of the table of tuples behind a step: there were n tuples and are k, and m is the one that may have been taken out
 pub record TableAfter (old : List ℕ) (n m k : ℕ) (new : List ℕ) : Type 0 where
   -- as many: every byte is as it was
   pub same : k ≡ n → new ≡ old

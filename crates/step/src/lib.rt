@@ -243,8 +243,8 @@ fn refusing(run: Run, number: u8) -> Run
     }
 }
 
-// Step(k, m, r), guarded or bare, of a state: the tables that no step changes are lent, what a step changes comes back and says what
-// it answers. Guarded, it needs the right in the thread's policy and in the home policy of its site.
+// Step(k, m, r), guarded or bare, of a state: its tables are lent, of which a step changes the tuples alone; what else it changes comes
+// back, and says what it answers. Guarded, it needs the right in the thread's policy and in the home policy of its site.
 pub fn step<'a, 'b>(
     homes: &'a [u8; 1024],
     boxes: &'a [u8; 1056],

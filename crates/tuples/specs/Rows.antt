@@ -10,7 +10,7 @@ pub record Padded (row : List ℕ) : Type 0 where
   pub few : getD row 0 0 ≤ 5
   pub zeros : (i : ℕ) → getD row 0 0 < i → getD row i 0 ≡ 0
 
--- from byte `at` on to byte i those six further on have moved up; all others are as they were
+-- from byte `at` up to byte i there are the bytes that stood six further on; all others are as they were
 pub record Moved (at : ℕ) (l₀ l : List ℕ) (i : ℕ) : Type 0 where
   pub long : length l ≡ length l₀
   pub low : (k : ℕ) → k < at → getD l k 0 ≡ getD l₀ k 0
