@@ -76,7 +76,26 @@ pub fn home_counts(homes: &[u8; 1024]) -> [u32; 32]
     held
 }
 
-// The share in thousandths, rounded down; of nothing, 0.
+// a / p to the nearest number, a half to the even one. 160 rights are the most of a home policy.
+fn nearest(p: u32, a: u32) -> u32
+    requires { ⌜ (0 < p) × (a ≤ 160000) ⌝ }
+    ensures { λ r. ⌜ r ≡ Listing.nearest p a ⌝ }
+{
+    let n = a / p;
+    let twice = 2 * (a % p);
+    if twice < p {
+        return n;
+    }
+    if p < twice {
+        return n + 1;
+    }
+    if n % 2 == 0 {
+        return n;
+    }
+    n + 1
+}
+
+// The share in thousandths, to the nearest; of nothing, 0.
 pub fn share(p: u32, q: u32) -> u32
     requires { ⌜ q ≤ 160 ⌝ }
     ensures { λ r. ⌜ r ≡ Listing.share p q ⌝ }
@@ -84,5 +103,5 @@ pub fn share(p: u32, q: u32) -> u32
     if p == 0 {
         return 0;
     }
-    1000 * q / p
+    nearest(p, 1000 * q)
 }

@@ -9,3 +9,4 @@ pub mod Demand3
 pub mod Ready
 pub mod Choices
 pub mod Above
+pub mod Share

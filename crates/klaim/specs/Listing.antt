@@ -72,9 +72,23 @@ usable w s t =
 unfoldable pub usedCount : World → ℕ → ℕ
 usedCount w s = sum (λ t. size (meet (home (w .net) s t) (usable w s t))) (below siteLimit)
 
--- "share in thousandths rounded down, 0 of 0 being 0": q of p
+-- the even one of n and n + 1
+unfoldable pub evenOf : ℕ → ℕ
+evenOf n = cond (eqb (n % 2) 0) n (n + 1)
+
+-- No. 7: "round to the nearest .., a half going to the even one": a / p is n and a rest, of which less than half of p goes down
+-- and more goes up
+unfoldable pub nearest : ℕ → ℕ → ℕ
+nearest p a =
+    let n = a / p in
+    let rest = a % p in
+    cond (ltb (2 * rest) p) n
+    (cond (ltb p (2 * rest)) (n + 1)
+    (evenOf n))
+
+-- "share in thousandths .., 0 of 0 being 0"; No. 7: "to the nearest thousandth": q of p
 unfoldable pub share : ℕ → ℕ → ℕ
-share p q = cond (eqb p 0) 0 (1000 * q / p)
+share p q = cond (eqb p 0) 0 (nearest p (1000 * q))
 
 -- "U: site, rights in its home policy, those also .., share"
 unfoldable pub rowU : World → ℕ → List ℕ

@@ -6,14 +6,13 @@ use mathlib.Core.List.{List, [], _∷_}
 use Prim.Native.Nat.{ℕ, _+_, _/_, _%_, _<_, _≤_}
 use native.Mathlib.Omega.{arith}
 use native.Mathlib.Decide.{ℕ-discrete}
-use native.Mathlib.Nat.{div-le-of-le-mul}
 use lib.Dec.{eqb}
 use lib.ListN.{length, getD}
 use borrow.Author.Tests.{ne-eqb}
 use Rattle.sets.specs.Lists.{_⧺_, only, keep, concat, below, table, tableFrom}
-use Rattle.sets.proofs.Lists.{cond-at}
 use Rattle.sets.proofs.Runs.{concat-below, concat-keep, concat-one}
 use Rattle.klaim.specs.Listing.{siteName, letters, row, share, rowV, rowsV}
+use Rattle.klaim.proofs.Share.{share-most}
 use Rattle.rows.proofs.Rows.{v-short, u-short}
 use Rattle.listing.specs.Lines.{entryV, lineU, linesU}
 
@@ -53,11 +52,6 @@ rows-more bytes i = concat-keep (rowV bytes) (λ j. not (eqb (getD bytes j 0) 0)
 pub rows-all : (bytes : List ℕ) → rowsTo bytes 1024 ≡ rowsV bytes
 unfolding rowsV
 rows-all bytes = refl
-
--- a share is at most all
-pub share-most : (p q : ℕ) → q ≤ p → share p q ≤ 1000
-unfolding share
-share-most p q h = cond-at (λ (n : ℕ). n ≤ 1000) (eqb p 0) (λ t. omega arith) (λ t. div-le-of-le-mul p (omega arith))
 
 pub line-short : (s p q : ℕ) → s < 32 → q ≤ p → p ≤ 160 → length (lineU s p q) ≤ 19
 unfolding lineU

@@ -8,15 +8,15 @@ returns : tie.Need-returns
 unfolding share
 returns c = rw (eq-eqb _ _ (c .if1 .taken))
 
-mul-result : tie.Need-mul-result
-mul-result c = search needs
+mul-nearest : tie.Need-mul-nearest
+mul-nearest c = search needs
 
-div-result : tie.Need-div-result
-div-result c = search needs
+nearest-requires : tie.Need-nearest-requires
+nearest-requires c κs = search needs
 
 returns-2 : tie.Need-returns-2
 unfolding share
-returns-2 c = rw (ne-eqb _ _ (c .if1 .left))
+returns-2 c = rw (ne-eqb _ _ (c .before .if1 .left)) (c .nearest .ensures)
 
 pub share-spec : {M : Type 1} → statement M
-share-spec = tie.close (tie.spec returns mul-result div-result returns-2)
+share-spec = tie.close (tie.spec returns mul-nearest nearest-requires returns-2)
