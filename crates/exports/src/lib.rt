@@ -44,6 +44,12 @@ pub extern "C" fn salmurkki_check(net: &[u8], estimate: &[u8], report: &mut [u8]
     coded(checker::check(net, estimate, report))
 }
 
+// The listing of an input, written to `output`: how many bytes it has.
+#[no_mangle]
+pub extern "C" fn salmurkki_list(input: &[u8], output: &mut [u8; 17006]) -> usize {
+    listing::list(input, output)
+}
+
 // Reads a net and its estimate: the number of the refusal, or 0.
 #[no_mangle]
 pub extern "C" fn salmurkki_read(net: &[u8], estimate: &[u8]) -> u32 {

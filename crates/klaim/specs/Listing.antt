@@ -76,8 +76,7 @@ usedCount w s = sum (λ t. size (meet (home (w .net) s t) (usable w s t))) (belo
 unfoldable pub evenOf : ℕ → ℕ
 evenOf n = cond (eqb (n % 2) 0) n (n + 1)
 
--- No. 7: "round to the nearest .., a half going to the even one": a / p is n and a rest, of which less than half of p goes down
--- and more goes up
+-- No. 7: "round to the nearest .., a half going to the even one": a / p is n and a rest; less than half of p goes down, more goes up
 unfoldable pub nearest : ℕ → ℕ → ℕ
 nearest p a =
     let n = a / p in
