@@ -2,6 +2,7 @@
 
 use crate::flow::*;
 use crate::rows::*;
+use std::cmp::Ordering;
 
 /// "At most 64 KiB; longer is 2, row 0."
 pub const MAX_INPUT: usize = 65_536;
@@ -69,8 +70,7 @@ fn write_accepted(out: &mut Vec<u8>, net: &Net, estimate: &Estimate, places: &Pl
     }
     for site in members(below(net.sites)) {
         let (held, used) = usage(net, estimate, site);
-        // "Rounded down, 0 of 0 being 0."
-        let share = (used * 1000).checked_div(held).unwrap_or(0);
+        let share = share(held, used);
         write_text(out, &format!("U,s{},{held},{used},{share}\n", site.0));
     }
 }
@@ -85,4 +85,18 @@ fn usage(net: &Net, estimate: &Estimate, site: Site) -> (u32, u32) {
     }
     meet(&mut used, home);
     (count_rights(home), count_rights(&used))
+}
+
+/// Used of held in thousandths, "to the nearest thousandth, a half going to
+/// the even one" (document 02, No. 7), "0 of 0 being 0".
+pub fn share(held: u32, used: u32) -> u32 {
+    if held == 0 {
+        return 0;
+    }
+    let (down, rest) = (used * 1000 / held, used * 1000 % held);
+    match (2 * rest).cmp(&held) {
+        Ordering::Less => down,
+        Ordering::Equal => down + down % 2,
+        Ordering::Greater => down + 1,
+    }
 }

@@ -1,5 +1,5 @@
-//! The nine examples that document 01 marks as proved, and the small cases
-//! around them.
+//! The nine examples that document 01 marks as proved, the small cases
+//! around them, and the three shares of document 02, No. 7.
 
 mod common;
 use common::*;
@@ -27,6 +27,19 @@ fn net_m_without_one_estimate_row() {
     assert_eq!(listing(NET_M, &without(ESTIMATE_M, "B,u1,s5")), "broken,Q,3");
     assert_eq!(listing(NET_M, &without(ESTIMATE_M, "A,s2,s3,s4")), "broken,T,0");
     assert_eq!(listing(NET_M, &without(ESTIMATE_M, "E,s1,s2,r")), "broken,Q,0");
+}
+
+/// "1 of 16 is 62, 3 of 16 is 188, 3 of 4 still 750."
+#[test]
+fn shares_to_the_nearest() {
+    let net = "N,4 R,s0,s0,oirea R,s0,s1,oirea R,s0,s2,oirea R,s0,s3,o";
+    let rest = "U,s1,0,0,0 U,s2,0,0,0 U,s3,0,0,0";
+    assert_eq!(listing(net, "E,s0,s3,o"), format!("accepted,0 U,s0,16,1,62 {rest}"));
+    let with_root = format!("{net} L,s0,0 Q,0,in,1,s2,s1 Q,1,read,2,self,s1 Q,2,nil");
+    let expected = format!("accepted,0 U,s0,16,3,188 {rest}");
+    assert_eq!(listing(net, "E,s0,s1,oia"), expected);
+    assert_eq!(listing(&with_root, "E,s0,s3,o"), expected);
+    assert_eq!(listing("N,1 R,s0,s0,oire", "E,s0,s0,oir"), "accepted,0 U,s0,4,3,750");
 }
 
 #[test]
@@ -89,7 +102,7 @@ fn sandbox_at_its_own_site() {
     let with_own = net.replace("D,0,s0,r", "D,0,s0,r D,0,self,or");
     assert_eq!(listing(&with_own, "A,s0,s0"), "broken,Q,0");
     let accepted = listing(&with_own, "A,s0,s0 E,s0,s0,r");
-    assert_eq!(accepted, "accepted,0 U,s0,3,2,666 U,s1,0,0,0");
+    assert_eq!(accepted, "accepted,0 U,s0,3,2,667 U,s1,0,0,0");
 }
 
 #[test]
@@ -98,7 +111,7 @@ fn sure_rights_over_a_reach() {
         Q,0,read,1,s0,!u0 Q,1,eval,2,u0,3,0 Q,2,nil Q,3,read,4,s0,s1 Q,4,nil";
     let estimate = "B,u0,s0 B,u0,s1 A,s0,s0 A,s0,s1 E,s0,s0,r E,s0,s1,r E,s1,s0,r E,s1,s1,r";
     let accepted = listing(net, estimate);
-    let expected = "accepted,3 V,s0,s0,r V,s1,s0,r V,s1,s1,r U,s0,6,4,666 U,s1,0,0,0";
+    let expected = "accepted,3 V,s0,s0,r V,s1,s0,r V,s1,s1,r U,s0,6,4,667 U,s1,0,0,0";
     assert_eq!(accepted, expected);
     // The sandbox evaluated at s1 holds r on s0: E rows of s0 must have it.
     assert_eq!(listing(net, &without(estimate, "E,s0,s0,r")), "broken,Q,1");

@@ -1,5 +1,6 @@
 //! Checks over generated cases: the fast rules against a plain restatement
-//! of document 01, and what accepted nets promise about steps.
+//! of document 01, and what accepted nets promise about steps; and shares
+//! against a plain restatement of document 02, No. 7.
 
 use super::damage::drop_row;
 use super::listings;
@@ -196,6 +197,23 @@ fn rules_and_report_agree_with_the_plain_ones() {
         }
     }
     assert!(broken > 50 && whole > 100);
+}
+
+/// For every count of rights held, up to 5 towards each of 32 sites.
+#[test]
+fn shares_are_the_nearest() {
+    for held in 1..=(LETTERS.len() * SITES) as u32 {
+        for used in 0..=held {
+            let share = listing::share(held, used);
+            let distance = |n: u32| (1000 * used).abs_diff(n * held);
+            assert!(share <= 1000, "{used} of {held}");
+            for n in (0..=1000).filter(|&n| n != share) {
+                let as_near = distance(n) == distance(share);
+                let nearer = distance(n) < distance(share);
+                assert!(!nearer && (!as_near || share & 1 == 0), "{used} of {held}");
+            }
+        }
+    }
 }
 
 /// The door by its definition, for the arrival in lines r to `end`.
