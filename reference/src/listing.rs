@@ -75,14 +75,20 @@ fn write_accepted(out: &mut Vec<u8>, net: &Net, estimate: &Estimate, places: &Pl
     }
 }
 
+/// The rights "in a root's use map there or in its E rows".
+pub fn usable(net: &Net, estimate: &Estimate, site: Site) -> Policy {
+    let mut uses = estimate.rights[site.index()];
+    for root in net.roots.iter().filter(|root| root.site == site) {
+        join(&mut uses, &use_map(net, estimate, root.line, site.bit()));
+    }
+    uses
+}
+
 /// "Rights in its home policy, those also in a root's use map there or in
 /// its E rows."
-fn usage(net: &Net, estimate: &Estimate, site: Site) -> (u32, u32) {
+pub fn usage(net: &Net, estimate: &Estimate, site: Site) -> (u32, u32) {
     let home = &net.home[site.index()];
-    let mut used = estimate.rights[site.index()];
-    for root in net.roots.iter().filter(|root| root.site == site) {
-        join(&mut used, &use_map(net, estimate, root.line, site.bit()));
-    }
+    let mut used = usable(net, estimate, site);
     meet(&mut used, home);
     (count_rights(home), count_rights(&used))
 }

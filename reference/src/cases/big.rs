@@ -117,11 +117,11 @@ pub fn sizes(rng: &mut Rng) -> Vec<u8> {
 fn full_rows(rng: &mut Rng) -> (Rows, Rows) {
     let mut net = Net::empty();
     net.sites = SITES as u8;
-    net.home = [[31; SITES]; SITES];
+    net.home = [[ALL_RIGHTS; SITES]; SITES];
     for _ in 0..*rng.pick(&[0, 5, 500]) {
         net.home[rng.below(SITES)][rng.below(SITES)] = some_rights(rng);
     }
-    net.sandboxes = [Sandbox { towards: [31; SITES], own: 31 }; SANDBOXES];
+    net.sandboxes = [Sandbox { towards: [ALL_RIGHTS; SITES], own: ALL_RIGHTS }; SANDBOXES];
     for at in 0..MAX_TUPLES {
         let site = |low: usize| Site(((at >> low) % SITES) as u8);
         net.tuples.push(Tuple {

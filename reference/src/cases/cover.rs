@@ -1,12 +1,14 @@
 //! What cases cover: a count for each thing that is seen to happen in them.
 
 use super::required::{required, Wanted};
+use super::shares::is_half;
 use super::Kind;
 use crate::engine::{State, MAX_THREADS};
 use crate::flow::{first_broken, net_places, reach, report, Broken};
-use crate::listing::{self, part};
+use crate::listing::{self, part, share, usage};
 use crate::rows::*;
 use crate::script::{self, Command};
+use std::cmp::Ordering;
 use std::collections::{BTreeMap, BTreeSet};
 
 /// One thing seen, and the row that it names (else 0).
@@ -117,6 +119,21 @@ impl Watcher {
                 for q in (0..net.lines.len()).filter(|&q| several(q)) {
                     self.line("accepted", &net.lines[q], true);
                 }
+                self.shares(&net, &estimate);
+            }
+        }
+    }
+
+    /// What becomes of the share in each U row.
+    fn shares(&mut self, net: &Net, estimate: &Estimate) {
+        for site in members(below(net.sites)) {
+            let (held, used) = usage(net, estimate, site);
+            self.note(format!("share: {}", rounding(held, used)));
+            if held >= 80 && is_half(held, used) {
+                self.note("share: a half of 80 or more");
+            }
+            if NAMED_SHARES.contains(&(used, held)) {
+                self.note(format!("share: {used} of {held}"));
             }
         }
     }
@@ -251,6 +268,22 @@ impl Watcher {
         if after.tuples.len() == MAX_TUPLES && before.tuples.len() < MAX_TUPLES {
             self.note("256 tuples");
         }
+    }
+}
+
+/// The shares that document 02, No. 7, names.
+const NAMED_SHARES: [(u32, u32); 3] = [(1, 16), (3, 16), (3, 4)];
+
+/// How the share stands to the thousandths that used of held are.
+fn rounding(held: u32, used: u32) -> &'static str {
+    let half = is_half(held, used);
+    match (share(held, used) * held).cmp(&(1000 * used)) {
+        _ if held == 0 => "0 of 0",
+        Ordering::Equal => "exact",
+        Ordering::Less if half => "a half, down to the even one",
+        Ordering::Less => "down",
+        Ordering::Greater if half => "a half, up to the even one",
+        Ordering::Greater => "up",
     }
 }
 

@@ -4,7 +4,9 @@ use super::big;
 use super::damage::{drop_row, harm_net, harm_rows};
 use super::nets::{accepted, LISTING};
 use super::rng::Rng;
+use super::shares::{make_halves, FEWEST_SITES};
 use super::text::{bytes, estimate_rows, net_rows, Rows};
+use crate::rows::{Estimate, Net};
 
 /// One input.
 pub fn case(rng: &mut Rng) -> Vec<u8> {
@@ -36,15 +38,26 @@ fn shuffle_groups(rng: &mut Rng, rows: &mut Rows) {
     }
 }
 
-/// A net with its estimate, from which `drops` or more rows are taken.
+/// A net with its estimate, from which `drops` or more rows are taken. With
+/// all rows, shares are sometimes made halves; that is drawn last.
 fn well_formed(rng: &mut Rng, drops: usize) -> Vec<u8> {
-    let (net, mut estimate) = accepted(rng, &LISTING);
+    let (mut net, mut estimate) = accepted(rng, &LISTING);
     if drops > 0 {
         for _ in 0..rng.between(drops, drops + 1) {
             drop_row(rng, &mut estimate);
         }
     }
-    let (mut net, mut estimate) = (net_rows(&net), estimate_rows(&estimate));
+    let text = written(rng, &net, &estimate);
+    if drops == 0 && net.sites >= FEWEST_SITES && rng.chance(12) {
+        make_halves(rng, &mut net, &mut estimate);
+        return written(rng, &net, &estimate);
+    }
+    text
+}
+
+/// The text of a net and an estimate; some groups in another order.
+fn written(rng: &mut Rng, net: &Net, estimate: &Estimate) -> Vec<u8> {
+    let (mut net, mut estimate) = (net_rows(net), estimate_rows(estimate));
     if rng.chance(40) {
         shuffle_groups(rng, &mut net);
         shuffle_groups(rng, &mut estimate);

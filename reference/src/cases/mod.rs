@@ -14,6 +14,7 @@ mod process;
 mod required;
 mod rng;
 mod scripts;
+mod shares;
 pub mod stored;
 mod text;
 

@@ -34,6 +34,8 @@ pub fn required(kind: Kind) -> Vec<Wanted> {
             all.extend(refusals());
             all.extend(VERDICTS.map(often));
             all.extend(LIMITS.map(some));
+            all.extend(SHARES.map(often));
+            all.extend(["1 of 16", "3 of 16", "3 of 4"].map(|what| some(format!("share: {what}"))));
             for line in ["out", "in", "read", "eval"] {
                 all.push(often(format!("broken: Q {line} towards several sites")));
                 all.push(often(format!("accepted: Q {line} towards several sites")));
@@ -80,6 +82,16 @@ const VERDICTS: [&str; 7] = [
     "broken: Q eval",
     "accepted: report empty",
     "accepted: report not empty",
+];
+
+const SHARES: [&str; 7] = [
+    "share: exact",
+    "share: down",
+    "share: up",
+    "share: a half, down to the even one",
+    "share: a half, up to the even one",
+    "share: a half of 80 or more",
+    "share: 0 of 0",
 ];
 
 const LIMITS: [&str; 14] = [

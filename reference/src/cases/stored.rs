@@ -1,5 +1,5 @@
-//! The cases of the stored runs: document 01's own, and such seeds that every
-//! thing which can be seen in a case is seen several times.
+//! The cases of the stored runs: those of documents 01 and 02, and such seeds
+//! that every thing which can be seen in a case is seen several times.
 
 use super::cover::{seen, Cover, Seen};
 use super::heavy::{ESTIMATE, NET};
@@ -46,12 +46,25 @@ const SMALL: [&str; 16] = [
     "N,1\n.\nB,u0,s0",
 ];
 
+/// Document 02's own cases: 1 of 16, 3 of 16, 3 of 4 (No. 7).
+const SHARES: [&str; 3] = [
+    "N,4\nR,s0,s0,oirea\nR,s0,s1,oirea\nR,s0,s2,oirea\nR,s0,s3,o\n.\nE,s0,s3,o\n",
+    "N,4\nR,s0,s0,oirea\nR,s0,s1,oirea\nR,s0,s2,oirea\nR,s0,s3,o\n.\nE,s0,s1,oia\n",
+    "N,1\nR,s0,s0,oire\n.\nE,s0,s0,oir\n",
+];
+
 /// Document 01's own cases.
-fn fixed_listings() -> Vec<Vec<u8>> {
+fn march_listings() -> Vec<String> {
     let whole = format!("{NET}.\n{ESTIMATE}");
     let mut texts = vec![whole.clone(), whole.replace("R,s1,s2,oir", "R,s1,s1,a\nR,s1,s2,oir")];
     texts.extend(NEEDED.map(|row| whole.replace(row, "")));
     texts.extend(SMALL.map(String::from));
+    texts
+}
+
+fn fixed_listings() -> Vec<Vec<u8>> {
+    let mut texts = march_listings();
+    texts.extend(SHARES.map(String::from));
     texts.into_iter().map(String::into_bytes).collect()
 }
 

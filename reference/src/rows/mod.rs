@@ -23,6 +23,7 @@ pub const IN: u8 = 2;
 pub const READ: u8 = 4;
 pub const EVAL: u8 = 8;
 pub const ACCEPT: u8 = 16;
+pub const ALL_RIGHTS: u8 = OUT | IN | READ | EVAL | ACCEPT;
 /// The letters of the rights, lowest bit first.
 pub const LETTERS: [u8; 5] = *b"oirea";
 
