@@ -189,6 +189,29 @@ pub fn checks() -> Vec<Heavy> {
     ]
 }
 
+/// Every home policy has all 160 rights, and every share is a half: 34 of
+/// 160 at s0, 38 at s1 and so on to 158. All R and E rows are there. The use
+/// maps of two roots at each site, three accepts each, are within the E rows.
+pub fn halves() -> Heavy {
+    let home = pairs(SITES, SITES, |s, t| format!("R,s{s},s{t},oirea\n"));
+    let sandbox: String = (0..SITES).map(|t| format!("D,0,s{t},r\n")).collect();
+    let roots: String = (0..MAX_ROOTS).map(|i| format!("L,s{},{}\n", i % SITES, 4 * i)).collect();
+    let accept_or_nil = |q: usize| match q % 4 {
+        3 => "nil".to_string(),
+        _ => format!("accept,{},0", q + 1),
+    };
+    let lines: Vec<String> = (0..MAX_LINES).map(accept_or_nil).collect();
+    let rights = pairs(SITES, SITES, |s, t| {
+        // The rights of a row: r alone, or up to all; the site's own row has a.
+        let used = 34 + 4 * s;
+        let more = (SITES + t - s) % SITES < used % SITES;
+        let letters = ["r", "ra", "rea", "irea", "oirea"][used / SITES - 1 + usize::from(more)];
+        format!("E,s{s},s{t},{letters}\n")
+    });
+    let net = format!("N,32\n{home}{sandbox}D,0,self,r\n{roots}{}", numbered(&lines));
+    Heavy::new("32 shares, each a half", net, rights)
+}
+
 /// A net with a thread that waits at each place below 20, 100 tuples, and at
 /// place 20 a thread `rep` over the lines given, which are numbered from 41
 /// on. A child of it stands at place 21.
@@ -297,6 +320,7 @@ pub fn arrived(passes: bool) -> Heavy {
 /// Every named input.
 pub fn all() -> Vec<Heavy> {
     let mut all = checks();
+    all.push(halves());
     all.extend(cycles());
     all.extend([closed_doors(), arrived(false), arrived(true)]);
     all
@@ -310,9 +334,11 @@ impl Heavy {
 
 #[cfg(test)]
 mod tests {
+    use super::super::shares::is_half;
     use super::*;
     use crate::engine::State;
     use crate::flow::{check, Answer};
+    use crate::listing;
 
     #[test]
     fn heavy_nets_are_accepted() {
@@ -326,6 +352,24 @@ mod tests {
         assert_eq!((net.sites, net.lines.len(), estimate.tuples.len()), (32, 256, 256));
         assert!(estimate.binds.iter().all(|&mask| mask == Mask::MAX));
         assert!(estimate.rights.iter().flatten().all(|&rights| rights != 0));
+    }
+
+    #[test]
+    fn shares_are_halves() {
+        let heavy = halves();
+        let listing = String::from_utf8(listing::list(&heavy.input())).unwrap();
+        let mut rows = listing.lines();
+        assert_eq!(rows.next(), Some("accepted,0"));
+        for (site, row) in rows.enumerate() {
+            let (held, used) = (160, 34 + 4 * site as u32);
+            assert!(row.starts_with(&format!("U,s{site},{held},{used},")), "{row}");
+            assert!(is_half(held, used), "{row}");
+        }
+        assert_eq!(listing.lines().count(), 1 + SITES);
+        let count = |text: &[u8], letter: u8| {
+            text.split(|&b| b == b'\n').filter(|row| row.first() == Some(&letter)).count()
+        };
+        assert_eq!((count(&heavy.net, b'R'), count(&heavy.estimate, b'E')), (1024, 1024));
     }
 
     fn begun(heavy: &Heavy) -> State {

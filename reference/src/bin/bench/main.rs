@@ -8,6 +8,7 @@ mod ours;
 mod theirs;
 
 use reference::cases::heavy::{self, Heavy};
+use std::cell::RefCell;
 
 const ROUNDS: usize = 15;
 /// Seconds that one measurement takes at least.
@@ -133,7 +134,6 @@ fn plain<'a>(
 }
 
 fn check_job(heavy: &Heavy) -> Job<'_> {
-    use std::cell::RefCell;
     let (mine, other) = (RefCell::new([0u8; 1024]), RefCell::new([0u8; 1024]));
     ours::check(heavy, &mut *mine.borrow_mut());
     theirs::check(heavy, &mut *other.borrow_mut());
@@ -143,6 +143,26 @@ fn check_job(heavy: &Heavy) -> Job<'_> {
         heavy,
         move |heavy| ours::check(heavy, &mut *mine.borrow_mut()),
         move |heavy| theirs::check(heavy, &mut *other.borrow_mut()),
+    )
+}
+
+/// Document 01's `lotcheck` as a call: input bytes to output bytes.
+fn list_job(heavy: &Heavy) -> Job<'_> {
+    let input = heavy.input();
+    let (mine, other) = (input.clone(), input);
+    let output = RefCell::new([0u8; ours::LISTING_BYTES]);
+    let length = ours::list(&mine, &mut output.borrow_mut());
+    assert_eq!(
+        output.borrow()[..length],
+        theirs::list(&other),
+        "{}: the listings differ",
+        heavy.name
+    );
+    plain(
+        "list",
+        heavy,
+        move |_| ours::list(&mine, &mut output.borrow_mut()) as u32,
+        move |_| theirs::list(&other).len() as u32,
     )
 }
 
@@ -167,9 +187,10 @@ fn door_job(heavy: &Heavy, at: [u8; 3]) -> Job<'_> {
 }
 
 fn jobs<'a>(inputs: &'a Inputs) -> Vec<Job<'a>> {
-    let Inputs { march, large, checks, cycles, refusals, mixed, closed, arrived } = inputs;
+    let Inputs { march, large, halves, checks, cycles, refusals, mixed, closed, arrived } = inputs;
     let mut jobs: Vec<Job> = checks.iter().map(check_job).collect();
     jobs.extend(checks.iter().map(|heavy| plain("read", heavy, ours::read, theirs::read)));
+    jobs.extend([march, large, halves].map(list_job));
     jobs.extend([march, large, mixed].map(start_job));
     jobs.extend(cycles.iter().filter(|heavy| !heavy.arrival.is_empty()).map(bring_job));
     jobs.extend(arrived.iter().map(bring_job));
@@ -191,6 +212,7 @@ fn jobs<'a>(inputs: &'a Inputs) -> Vec<Job<'a>> {
 struct Inputs {
     march: Heavy,
     large: Heavy,
+    halves: Heavy,
     checks: Vec<Heavy>,
     cycles: Vec<Heavy>,
     refusals: Vec<Heavy>,
@@ -203,6 +225,7 @@ fn main() {
     let inputs = Inputs {
         march: heavy::march(),
         large: heavy::large(),
+        halves: heavy::halves(),
         checks: heavy::checks(),
         cycles: heavy::cycles(),
         refusals: heavy::refusals(),
@@ -218,7 +241,8 @@ fn main() {
     println!("{:13} {:40} {:>11} {:>11} {:>7}", "call", "input", "ours", "reference", "ratio");
     let times: Vec<Times> = jobs(&inputs).iter().map(measure).inspect(print).collect();
     println!("\nThe largest time of each call, ours:");
-    for call in ["check", "read", "start", "bring", "step", "guarded step", "ready", "door"] {
+    for call in ["check", "read", "list", "start", "bring", "step", "guarded step", "ready", "door"]
+    {
         let of_call = times.iter().filter(|times| times.call == call);
         if let Some(worst) = of_call.max_by(|a, b| a.each[0].total_cmp(&b.each[0])) {
             println!("{:13} {:40} {:>11.3}", call, worst.input, worst.each[0]);

@@ -1,10 +1,14 @@
 //! The proved calls, as `crates/exports` hands them out.
 
+/// Bytes that hold every listing.
+pub const LISTING_BYTES: usize = 17_006;
+
 #[link(name = "exports", kind = "static")]
 #[allow(improper_ctypes)]
 extern "C" {
     fn salmurkki_check(net: &[u8], estimate: &[u8], report: &mut [u8]) -> u32;
     fn salmurkki_read(net: &[u8], estimate: &[u8]) -> u32;
+    fn salmurkki_list(input: &[u8], output: &mut [u8; LISTING_BYTES]) -> usize;
     fn salmurkki_start(net: &[u8], estimate: &[u8], count: usize) -> u32;
     fn salmurkki_bring(net: &[u8], estimate: &[u8], arrival: &[u8], count: usize) -> u32;
     fn salmurkki_steps(
@@ -47,6 +51,11 @@ pub fn check(heavy: &Heavy, report: &mut [u8]) -> u32 {
 
 pub fn read(heavy: &Heavy) -> u32 {
     unsafe { salmurkki_read(&heavy.net, &heavy.estimate) }
+}
+
+/// How many bytes of the output are written.
+pub fn list(input: &[u8], output: &mut [u8; LISTING_BYTES]) -> usize {
+    unsafe { salmurkki_list(input, output) }
 }
 
 pub fn start(heavy: &Heavy, count: usize) -> u32 {

@@ -3,6 +3,7 @@
 use reference::cases::heavy::Heavy;
 use reference::engine::State;
 use reference::flow::{self, Answer, Broken};
+use reference::listing;
 use reference::rows::{Estimate, Net};
 use std::hint::black_box;
 
@@ -25,6 +26,10 @@ pub fn read(heavy: &Heavy) -> u32 {
     let result = flow::read_both(&heavy.net, &heavy.estimate, &mut net, &mut estimate);
     black_box((&net, &estimate));
     result.map_or_else(|refusal| u32::from(refusal.number), |()| 0)
+}
+
+pub fn list(input: &[u8]) -> Vec<u8> {
+    black_box(listing::list(input))
 }
 
 fn placed(state: &State) -> u32 {
