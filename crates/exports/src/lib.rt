@@ -1,4 +1,4 @@
-//! For the timing in `reference/bench` alone: functions on byte slices and numbers that make the public calls. A state does not leave
+//! For the timing in `reference/bench` alone: functions on bytes and numbers that make the public calls. A state does not leave
 //! the library: each begins from the texts, and does its work `count` times. They are proved safe and ending, and promise no more; what
 //! is promised of a public call stands at that call.
 ghost use mathlib.Core.Path.{_≡_};
@@ -46,7 +46,7 @@ pub extern "C" fn salmurkki_check(net: &[u8], estimate: &[u8], report: &mut [u8]
 
 // The listing of an input, written to `output`: how many bytes it has.
 #[no_mangle]
-pub extern "C" fn salmurkki_list(input: &[u8], output: &mut [u8; 17006]) -> usize {
+pub extern "C" fn salmurkki_list(input: &[u8], output: &mut [u8; listing::LISTING]) -> usize {
     listing::list(input, output)
 }
 
