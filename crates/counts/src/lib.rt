@@ -76,7 +76,7 @@ pub fn home_counts(homes: &[u8; 1024]) -> [u32; 32]
     held
 }
 
-// a / p to the nearest number, a half to the even one. 160 rights are the most of a home policy.
+// a / p to the nearest number, a half to the even one; a is at most 1000 times the 160 rights of a home policy.
 fn nearest(p: u32, a: u32) -> u32
     requires { ⌜ (0 < p) × (a ≤ 160000) ⌝ }
     ensures { λ r. ⌜ r ≡ Listing.nearest p a ⌝ }

@@ -1,5 +1,5 @@
 //! For the timing in `reference/bench` alone: functions on bytes and numbers that make the public calls. A state does not leave
-//! the library: each begins from the texts, and does its work `count` times. They are proved safe and ending, and promise no more; what
+//! the library: those of the engine begin from the texts, and do their work `count` times. They are proved safe and ending, and promise no more; what
 //! is promised of a public call stands at that call.
 ghost use mathlib.Core.Path.{_≡_};
 ghost use Prim.Native.Nat.{_<_, _≤_};
@@ -42,6 +42,12 @@ fn coded(answer: Answer) -> u32 {
 #[no_mangle]
 pub extern "C" fn salmurkki_check(net: &[u8], estimate: &[u8], report: &mut [u8]) -> u32 {
     coded(checker::check(net, estimate, report))
+}
+
+// How many bytes the output of `salmurkki_list` has.
+#[no_mangle]
+pub extern "C" fn salmurkki_listing_size() -> usize {
+    listing::LISTING
 }
 
 // The listing of an input, written to `output`: how many bytes it has.

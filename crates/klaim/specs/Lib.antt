@@ -1,4 +1,4 @@
--- Document 01, in its order.
+-- Document 01, in its order, with the requests of document 02 where they belong: a comment "No. 7" names one.
 pub mod Limits
 pub mod Process
 pub mod Rows
@@ -12,4 +12,5 @@ pub mod Engine
 pub mod Invariant
 pub mod WellFormed
 pub mod Listing
+pub mod Rounding
 pub mod Demand3

@@ -1,4 +1,4 @@
--- The March listing: from the bytes of the input to the bytes of the output.
+-- The March listing: from the bytes of the input to the bytes of the output. No. 7 is a request of document 02.
 -- Assumes nothing.
 use mathlib.Core.Bool.{Bool, true, false, not, cond}
 use mathlib.Core.List.{List, [], _∷_}
@@ -72,11 +72,12 @@ usable w s t =
 unfoldable pub usedCount : World → ℕ → ℕ
 usedCount w s = sum (λ t. size (meet (home (w .net) s t) (usable w s t))) (below siteLimit)
 
--- the even one of n and n + 1
+-- "the even one" of n and n + 1
 unfoldable pub evenOf : ℕ → ℕ
 evenOf n = cond (eqb (n % 2) 0) n (n + 1)
 
--- No. 7: "round to the nearest .., a half going to the even one": a / p is n and a rest; less than half of p goes down, more goes up
+-- No. 7: "round to the nearest .., a half going to the even one": n times p and a rest, of which less than half of p goes down and
+-- more goes up
 unfoldable pub nearest : ℕ → ℕ → ℕ
 nearest p a =
     let n = a / p in

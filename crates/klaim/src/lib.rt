@@ -1,4 +1,4 @@
-//! The names that targets and fields are made of. The definitions of document 01 stand in specs/.
+//! The names that targets and fields are made of. The definitions of documents 01 and 02 stand in specs/.
 
 // "A site number and a variable number are different sorts": Loc and LocVar of document 001.
 pub struct Site(pub u8);

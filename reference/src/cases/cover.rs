@@ -129,10 +129,10 @@ impl Watcher {
         for site in members(below(net.sites)) {
             let (held, used) = usage(net, estimate, site);
             self.note(format!("share: {}", rounding(held, used)));
-            if held >= 80 && is_half(held, used) {
-                self.note("share: a half of 80 or more");
+            if held >= MANY_RIGHTS && is_half(held, used) {
+                self.note("share: a half, many rights");
             }
-            if NAMED_SHARES.contains(&(used, held)) {
+            if NAMED_SHARES.contains(&(held, used)) {
                 self.note(format!("share: {used} of {held}"));
             }
         }
@@ -271,10 +271,13 @@ impl Watcher {
     }
 }
 
-/// The shares that document 02, No. 7, names.
-const NAMED_SHARES: [(u32, u32); 3] = [(1, 16), (3, 16), (3, 4)];
+/// Half of the most rights that a home policy has: 5 towards each of 32 sites.
+const MANY_RIGHTS: u32 = (LETTERS.len() * SITES / 2) as u32;
 
-/// How the share stands to the thousandths that used of held are.
+/// The counts held and used that document 02, No. 7, names.
+pub const NAMED_SHARES: [(u32, u32); 3] = [(16, 1), (16, 3), (4, 3)];
+
+/// Which way the share of a U row is rounded.
 fn rounding(held: u32, used: u32) -> &'static str {
     let half = is_half(held, used);
     match (share(held, used) * held).cmp(&(1000 * used)) {

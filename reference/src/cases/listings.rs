@@ -39,7 +39,8 @@ fn shuffle_groups(rng: &mut Rng, rows: &mut Rows) {
 }
 
 /// A net with its estimate, from which `drops` or more rows are taken. With
-/// all rows, shares are sometimes made halves; that is drawn last.
+/// all rows, shares are sometimes made halves: drawn last, so that every
+/// other seed keeps its text.
 fn well_formed(rng: &mut Rng, drops: usize) -> Vec<u8> {
     let (mut net, mut estimate) = accepted(rng, &LISTING);
     if drops > 0 {

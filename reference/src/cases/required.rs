@@ -1,5 +1,6 @@
 //! What the stored cases must have.
 
+use super::cover::NAMED_SHARES;
 use super::Kind;
 use crate::listing::MAX_INPUT;
 use crate::rows::*;
@@ -35,7 +36,7 @@ pub fn required(kind: Kind) -> Vec<Wanted> {
             all.extend(VERDICTS.map(often));
             all.extend(LIMITS.map(some));
             all.extend(SHARES.map(often));
-            all.extend(["1 of 16", "3 of 16", "3 of 4"].map(|what| some(format!("share: {what}"))));
+            all.extend(NAMED_SHARES.map(|(held, used)| some(format!("share: {used} of {held}"))));
             for line in ["out", "in", "read", "eval"] {
                 all.push(often(format!("broken: Q {line} towards several sites")));
                 all.push(often(format!("accepted: Q {line} towards several sites")));
@@ -90,7 +91,7 @@ const SHARES: [&str; 7] = [
     "share: up",
     "share: a half, down to the even one",
     "share: a half, up to the even one",
-    "share: a half of 80 or more",
+    "share: a half, many rights",
     "share: 0 of 0",
 ];
 

@@ -19,9 +19,9 @@ fn halves(most: u32) -> Vec<(u32, u32)> {
     pairs.filter(|&(held, used)| is_half(held, used)).collect()
 }
 
-/// Gives one site, some or all home policies such that their shares are
-/// halves, as far as the rights used there let them. E rows are widened where
-/// too few are used; no rule is broken by that, nor by a home policy.
+/// Gives one site, some sites or all of them home policies whose shares are
+/// halves, where the rights used there allow it. E rows are widened where too
+/// few are used; no rule is broken by that, nor by a home policy.
 pub fn make_halves(rng: &mut Rng, net: &mut Net, estimate: &mut Estimate) {
     let mut sites: Vec<Site> = members(below(net.sites)).collect();
     rng.shuffle(&mut sites);

@@ -148,6 +148,7 @@ fn check_job(heavy: &Heavy) -> Job<'_> {
 
 /// Document 01's `lotcheck` as a call: input bytes to output bytes.
 fn list_job(heavy: &Heavy) -> Job<'_> {
+    assert_eq!(ours::listing_size(), ours::LISTING_BYTES, "the size of a listing has changed");
     let input = heavy.input();
     let (mine, other) = (input.clone(), input);
     let output = RefCell::new([0u8; ours::LISTING_BYTES]);
@@ -190,7 +191,7 @@ fn jobs<'a>(inputs: &'a Inputs) -> Vec<Job<'a>> {
     let Inputs { march, large, halves, checks, cycles, refusals, mixed, closed, arrived } = inputs;
     let mut jobs: Vec<Job> = checks.iter().map(check_job).collect();
     jobs.extend(checks.iter().map(|heavy| plain("read", heavy, ours::read, theirs::read)));
-    jobs.extend([march, large, halves].map(list_job));
+    jobs.extend(checks.iter().chain([halves]).map(list_job));
     jobs.extend([march, large, mixed].map(start_job));
     jobs.extend(cycles.iter().filter(|heavy| !heavy.arrival.is_empty()).map(bring_job));
     jobs.extend(arrived.iter().map(bring_job));

@@ -1,6 +1,6 @@
 //! The proved calls, as `crates/exports` hands them out.
 
-/// Bytes that hold every listing.
+/// Bytes that hold every listing: as many as `salmurkki_listing_size` says.
 pub const LISTING_BYTES: usize = 17_006;
 
 #[link(name = "exports", kind = "static")]
@@ -8,6 +8,7 @@ pub const LISTING_BYTES: usize = 17_006;
 extern "C" {
     fn salmurkki_check(net: &[u8], estimate: &[u8], report: &mut [u8]) -> u32;
     fn salmurkki_read(net: &[u8], estimate: &[u8]) -> u32;
+    fn salmurkki_listing_size() -> usize;
     fn salmurkki_list(input: &[u8], output: &mut [u8; LISTING_BYTES]) -> usize;
     fn salmurkki_start(net: &[u8], estimate: &[u8], count: usize) -> u32;
     fn salmurkki_bring(net: &[u8], estimate: &[u8], arrival: &[u8], count: usize) -> u32;
@@ -51,6 +52,10 @@ pub fn check(heavy: &Heavy, report: &mut [u8]) -> u32 {
 
 pub fn read(heavy: &Heavy) -> u32 {
     unsafe { salmurkki_read(&heavy.net, &heavy.estimate) }
+}
+
+pub fn listing_size() -> usize {
+    unsafe { salmurkki_listing_size() }
 }
 
 /// How many bytes of the output are written.
