@@ -1,6 +1,6 @@
 //! For the timing in `reference/bench` alone: functions on bytes and numbers that make the public calls. A state does not leave
-//! the library: those of the engine begin from the texts, and do their work `count` times. They are proved safe and ending, and promise no more; what
-//! is promised of a public call stands at that call.
+//! the library: those of the engine begin from the texts, and do their work `count` times. They are proved safe and ending, and
+//! promise no more; what is promised of a public call stands at that call.
 ghost use mathlib.Core.Path.{_≡_};
 ghost use Prim.Native.Nat.{_<_, _≤_};
 ghost use Rattle.state.specs.Fits.{Fits};

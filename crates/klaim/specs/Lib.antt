@@ -1,4 +1,4 @@
--- Document 01, in its order, with the requests of document 02 where they belong: a comment "No. 7" names one.
+-- Document 01, in its order; No. 7 in a comment is that request of document 02.
 pub mod Limits
 pub mod Process
 pub mod Rows
