@@ -1,16 +1,34 @@
 -- The share of a U row, q of p where p is not 0: no thousandth is nearer, and where another one is as near, the share is even; no
--- other number is so. And the cases of its definition, for the code.
+-- other number is so. Only the first laws here open `nearest`; the proof of the code uses them too.
 -- Assumes nothing.
-use mathlib.Core.Path.{_≡_, sym}
+use mathlib.Core.Path.{_≡_, sym, subst}
 use Prim.Native.Nat.{ℕ, _+_, _*_, _/_, _%_, _<_, _≤_}
 use native.Mathlib.Omega.{arith, ne-cases, by-contra}
 use native.Mathlib.Decide.{ℕ-discrete}
 use native.Mathlib.Nat.{div-add-mod', mod-lt, mul-le-mul-right}
-use lib.Dec.{eqb, ltb}
-use borrow.Author.Tests.{ltb-true, ltb-false, eqb-true, eqb-false, lt-ltb, le-ltb, eq-eqb, ne-eqb}
+use lib.Dec.{eqb}
+use borrow.Author.Tests.{eqb-true, eqb-false, lt-ltb, le-ltb, eq-eqb, ne-eqb}
 use Rattle.sets.proofs.Lists.{cond-at}
 use Rattle.klaim.specs.Listing.{evenOf, nearest, share}
 use Rattle.klaim.specs.Rounding.{apart, Nearest}
+
+-- the cases of `nearest`: less than a half, more, a half at an even and at an odd number
+module _ (p a : ℕ) where
+  pub nearest-less : 2 * (a % p) < p → a / p ≡ nearest p a
+  unfolding nearest
+  nearest-less s = simp (lt-ltb (2 * (a % p)) p s)
+
+  pub nearest-more : p < 2 * (a % p) → a / p + 1 ≡ nearest p a
+  unfolding nearest
+  nearest-more s = simp (le-ltb (2 * (a % p)) p (omega arith), lt-ltb p (2 * (a % p)) s)
+
+  pub nearest-even : p ≤ 2 * (a % p) → 2 * (a % p) ≤ p → a / p % 2 ≡ 0 → a / p ≡ nearest p a
+  unfolding nearest evenOf
+  nearest-even s t e = simp (le-ltb (2 * (a % p)) p s, le-ltb p (2 * (a % p)) t, eq-eqb (a / p % 2) 0 e)
+
+  pub nearest-odd : p ≤ 2 * (a % p) → 2 * (a % p) ≤ p → (a / p % 2 ≡ 0 → ⊥) → a / p + 1 ≡ nearest p a
+  unfolding nearest evenOf
+  nearest-odd s t e = simp (le-ltb (2 * (a % p)) p s, le-ltb p (2 * (a % p)) t, ne-eqb (a / p % 2) 0 e)
 
 -- the multiples of p by two different numbers lie p or more apart
 spaced : (p : ℕ) {m n : ℕ} → m < n → m * p + p ≤ n * p
@@ -31,35 +49,30 @@ close-nearest {p} {a} {n} w = record { none-nearer = λ m. nearer m (ℕ-discret
     half : (m : ℕ) → (m ≡ n → ⊥) → apart a (m * p) ≡ apart a (n * p) → 2 * apart a (n * p) ≡ p
     half m d e = ne-cases m n _ d (λ l. omega (arith, w .within, spaced p l)) (λ l. omega (arith, w .within, spaced p l))
 
--- a / p is n and a rest r of p: up to a half goes down, from a half on goes up, and at a half the number is even
-module _ (p a n r : ℕ) (l : r < p) (w : n * p + r ≡ a) where
-  down : 2 * r ≤ p → (2 * r ≡ p → n % 2 ≡ 0) → Close p a n
-  down t even = record { within = omega arith; half-even = λ e. even (omega arith) }
+-- up to a half goes down, from a half on goes up, and at a half the number is even
+module _ (p a : ℕ) (h : 0 < p) where
+  down : 2 * (a % p) ≤ p → (2 * (a % p) ≡ p → a / p % 2 ≡ 0) → Close p a (a / p)
+  down t even = record { within = omega (arith, div-add-mod' a p); half-even = λ e. even (omega (arith, div-add-mod' a p)) }
 
-  up : p ≤ 2 * r → (2 * r ≡ p → (n + 1) % 2 ≡ 0) → Close p a (n + 1)
-  up t even = record { within = omega arith; half-even = λ e. even (omega arith) }
+  up : p ≤ 2 * (a % p) → (2 * (a % p) ≡ p → (a / p + 1) % 2 ≡ 0) → Close p a (a / p + 1)
+  up t even = record { within = omega (arith, div-add-mod' a p, mod-lt a h); half-even = λ e. even (omega (arith, div-add-mod' a p, mod-lt a h)) }
 
-  less : 2 * r < p → Close p a n
-  less t = down (omega arith) (λ e. omega arith)
+  less : 2 * (a % p) < p → Close p a (nearest p a)
+  less t = subst (Close p a) (nearest-less p a t) (down (omega arith) (λ e. omega arith))
 
-  more : p < 2 * r → Close p a (n + 1)
-  more t = up (omega arith) (λ e. omega arith)
+  more : p < 2 * (a % p) → Close p a (nearest p a)
+  more t = subst (Close p a) (nearest-more p a t) (up (omega arith) (λ e. omega arith))
 
-  half : p ≤ 2 * r → 2 * r ≤ p → Close p a (evenOf n)
-  unfolding evenOf
-  half s t = cond-at (Close p a) _ (λ e. down t (λ _. eqb-true _ _ e)) (λ e. up s (λ _. odd (eqb-false _ _ e)))
+  half : p ≤ 2 * (a % p) → 2 * (a % p) ≤ p → Dec (a / p % 2 ≡ 0) → Close p a (nearest p a)
+  half s t (yes e) = subst (Close p a) (nearest-even p a s t e) (down t (λ _. e))
+  half s t (no d) = subst (Close p a) (nearest-odd p a s t d) (up s (λ _. omega arith))
+
+  nearest-is : Nearest p a (nearest p a)
+  nearest-is = close-nearest (go (ℕ-discrete (2 * (a % p)) p))
     where
-      odd : (n % 2 ≡ 0 → ⊥) → (n + 1) % 2 ≡ 0
-      odd e = omega arith
-
-nearest-is : (p a : ℕ) → 0 < p → Nearest p a (nearest p a)
-unfolding nearest
-nearest-is p a h =
-    let l = mod-lt a h in
-    let w = div-add-mod' a p in
-    close-nearest (cond-at (Close p a) _ (λ s. less p a _ _ l w (ltb-true _ _ s)) λ s.
-    cond-at (Close p a) _ (λ t. more p a _ _ l w (ltb-true _ _ t)) λ t.
-    half p a _ _ l w (ltb-false _ _ s) (ltb-false _ _ t))
+      go : Dec (2 * (a % p) ≡ p) → Close p a (nearest p a)
+      go (yes e) = half (omega arith) (omega arith) (ℕ-discrete (a / p % 2) 0)
+      go (no d) = ne-cases (2 * (a % p)) p (Close p a (nearest p a)) d less more
 
 -- no number stands between two that are as near as any: it would be nearer
 between : {p a m n : ℕ} → 0 < p → Nearest p a m → apart a (m * p) ≡ apart a (n * p) → m + 1 < n → ⊥
@@ -96,21 +109,3 @@ share-most p q h = cond-at (λ (n : ℕ). n ≤ 1000) (eqb p 0) (λ t. omega ari
   where
     go : (p ≡ 0 → ⊥) → nearest p (1000 * q) ≤ 1000
     go d = nearest-most (omega arith) (nearest-is p (1000 * q) (omega arith)) (omega arith)
-
--- the definition's cases, as the code meets them
-module _ (p a : ℕ) where
-  pub nearest-less : 2 * (a % p) < p → a / p ≡ nearest p a
-  unfolding nearest
-  nearest-less s = rw (lt-ltb (2 * (a % p)) p s)
-
-  pub nearest-more : p < 2 * (a % p) → a / p + 1 ≡ nearest p a
-  unfolding nearest
-  nearest-more s = rw (le-ltb (2 * (a % p)) p (omega arith), lt-ltb p (2 * (a % p)) s)
-
-  pub nearest-even : p ≤ 2 * (a % p) → 2 * (a % p) ≤ p → a / p % 2 ≡ 0 → a / p ≡ nearest p a
-  unfolding nearest evenOf
-  nearest-even s t e = rw (le-ltb (2 * (a % p)) p s, le-ltb p (2 * (a % p)) t, eq-eqb (a / p % 2) 0 e)
-
-  pub nearest-odd : p ≤ 2 * (a % p) → 2 * (a % p) ≤ p → (a / p % 2 ≡ 0 → ⊥) → a / p + 1 ≡ nearest p a
-  unfolding nearest evenOf
-  nearest-odd s t e = rw (le-ltb (2 * (a % p)) p s, le-ltb p (2 * (a % p)) t, ne-eqb (a / p % 2) 0 e)
