@@ -7,14 +7,12 @@ ghost use Rattle.sets.specs.Bits.{size, meet};
 ghost use Rattle.klaim.specs.Limits.{siteLimit, reportSize};
 ghost use Rattle.klaim.specs.Net.{Net, home};
 ghost use Rattle.klaim.specs.Listing as Listing;
+use sets::EVERY;
 
 // The limits of document 01.
 const SITES: usize = 32;
 
 const REPORT: usize = 1024;
-
-// All five rights.
-const EVERY: u8 = 31;
 
 // How many rights a set has.
 fn size_of(rights: u8) -> u32

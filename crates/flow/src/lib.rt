@@ -98,7 +98,7 @@ impl UseMap {
 
     pub const ACCEPT: u8 = 16;
 
-    pub const EVERY: u8 = 31;
+    pub const EVERY: u8 = sets::EVERY;
 
     // The empty use map: no right on any site.
     pub fn empty() -> UseMap

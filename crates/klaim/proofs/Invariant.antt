@@ -11,7 +11,7 @@ use lib.Dec.{leb, ltb}
 use lib.ListN.{length, getElem?, length-append, length-map, length-replicate, List·getD-append}
 use Rattle.sets.specs.Lists.{Elem, first, later, All, done, more, _&_, either, all, empty, splice, concat, among, _⧺_}
 use Rattle.sets.specs.Bits.{inBit, readBit}
-use Rattle.sets.proofs.Lists.{and-l, and-r, in-none, all-at, all-i, all-none, all-turn, all-snoc, all-append, all-map, all-splice, all-get, among-in, empty-none, All-get, All-append, All-splice, All-turn, All-in, All-concat, ltb-lt, lt-ltb, leb-le, in-concat, in-right, in-map, cond-at, length-cat, in-getD}
+use Rattle.sets.proofs.Lists.{and-l, and-r, in-none, all-at, all-i, all-none, all-turn, all-snoc, all-append, all-map, all-splice, all-get, among-in, empty-none, All-get, All-append, All-splice, All-turn, All-in, All-concat, ltb-lt, lt-ltb, leb-le, in-concat, in-right, in-map, cond-at, concat-short, in-getD}
 use Rattle.sets.proofs.Tables.{length-table}
 use Rattle.klaim.specs.Limits.{threadLimit, tupleLimit}
 use Rattle.klaim.specs.declared.Loc.{Loc}
@@ -319,11 +319,6 @@ bring-keeps st bytes i = bringRead-ok st _ (λ ls e. arrival-read _ _ bytes ls (
 settle-short : (ls : List Line) (th : Thread) → length (settle ls th) ≤ 1
 unfolding settle
 settle-short ls th = cond-at (λ (ts : List Thread). length ts ≤ 1) (isNil (lineAt ls (th .line))) (λ t. omega arith) (λ t. omega arith)
-
-concat-short : {A B : Type 0} (f : A → List B) → ((x : A) → length (f x) ≤ 1) → (xs : List A) → length (concat f xs) ≤ length xs
-unfolding concat
-concat-short f h [] = omega arith
-concat-short f h (x ∷ xs) = omega (arith, length-cat (f x) (concat f xs), h x, concat-short f h xs)
 
 root-stands : (N : Net) (r : Root) → RootOk N r → Standing (N .size) (N .lines) (rootThread N r)
 unfolding rootThread homePolicy

@@ -10,3 +10,4 @@ pub mod Ready
 pub mod Choices
 pub mod Above
 pub mod Share
+pub mod Letters

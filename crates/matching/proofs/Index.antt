@@ -16,7 +16,7 @@ use lib.ListN.{length, getD, take, drop, length-take, length-map, set, replicate
 use lib.Seq.{ext-getD, getD-take, getD-set-same, getD-set-other}
 use Rattle.sets.specs.Lists.{_&_, either, imp, all, any, only, keep, same, below, table, tableFrom, fits, product}
 use Rattle.sets.specs.Bits.{has, mem, sites, join}
-use Rattle.sets.proofs.Lists.{and-true, and-false, and-yes, and-no, eqb-suc, iff, and-i, and-l, and-r, imp-e, any-at, any-i, length-cat, or-case, or-l, or-r, eqb-eq, ltb-lt, lt-ltb}
+use Rattle.sets.proofs.Lists.{and-true, and-false, and-yes, and-no, eqb-suc, iff, and-i, and-l, and-r, imp-e, any-at, any-i, length-cat, keep-short, or-case, or-l, or-r, eqb-eq, ltb-lt, lt-ltb}
 use borrow.Author.Tests.{eq-eqb, ne-eqb, le-ltb}
 use Rattle.sets.proofs.Shared.{mem-single, none-high}
 use Rattle.sets.proofs.Bits.{digit, has-or, has-none, has-half, same-bits}
@@ -584,15 +584,6 @@ filled-map f xs {l = l} {m} F e h = ext-getD 0 (take m l) (map f xs) (omega (ari
 pub sites-ones : (m : ℕ) → m < 4294967296 → ones m ≡ length (sites m)
 unfolding sites below table
 sites-ones m h = sym (ones-from m 32 0 (subst (λ (y : ℕ). y < 4294967296) (sym (div-one m)) h) ∙ ap ones (div-one m))
-
-keep-short : {A : Type 0} (f : A → Bool) (xs : List A) → length (keep f xs) ≤ length xs
-unfolding keep
-keep-short f [] = omega arith
-keep-short f (x ∷ xs) = omega (arith, length-cat (only (f x) x) (keep f xs), only-long (f x) x, few (f x), keep-short f xs)
-  where
-    few : (b : Bool) → cond b 1 0 ≤ 1
-    few true = omega arith
-    few false = omega arith
 
 -- more choices than rows
 pub many-rule : (ms : List ℕ) (m : ℕ) (rows : List (List ℕ)) (need : ℕ) → distinct rows ≡ true → length rows ≤ 256 → need ≡ min (product (Sets ms m)) 257 → 257 ≤ need → false ≡ choices (Sets ms m) (λ t. any (same t) rows)

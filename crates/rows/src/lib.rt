@@ -1,11 +1,14 @@
 //! The rows of the March listing, each written from `at` on into a lent buffer.
+ghost use mathlib.Core.Path.{_≡_};
 ghost use mathlib.Core.List.{[], _∷_};
 ghost use Prim.Native.Nat.{_+_, _≤_};
 ghost use lib.ListN.{length};
 ghost use Rattle.klaim.specs.Listing.{numeral, siteName, letters, row};
 ghost use Rattle.writer.specs.Wrote.{Wrote, field};
+ghost use Rattle.writer.specs.Letters.{letterTable};
+use writer::LetterTable;
 use writer::put_byte;
-use writer::put_letters;
+use writer::put_letters_from;
 use writer::put_number;
 use writer::put_site;
 use writer::put_text;
@@ -29,12 +32,12 @@ fn site_field(out: &mut [u8], at: usize, site: u8) -> usize
 }
 
 // A comma and the letters of a set of rights.
-fn rights_field(out: &mut [u8], at: usize, rights: u8) -> usize
-    requires { ⌜ at + length (field (letters rights)) ≤ length (now out) ⌝ }
+fn rights_field(out: &mut [u8], at: usize, entries: &LetterTable, rights: u8) -> usize
+    requires { ⌜ (now entries ≡ letterTable) × (at + length (field (letters rights)) ≤ length (now out)) ⌝ }
     ensures { λ r. ⌜ Wrote (now (out .entry)) (now (out .exit)) at (field (letters rights)) r ⌝ }
 {
     let next = put_byte(out, at, b',');
-    put_letters(out, next, rights)
+    put_letters_from(out, next, entries, rights)
 }
 
 // `accepted`, and how many rights are reported.
@@ -70,14 +73,22 @@ pub fn put_broken(out: &mut [u8], at: usize, kind: u8, number: u32) -> usize
 }
 
 // A row V: subject, object, rights.
-pub fn put_v(out: &mut [u8], at: usize, subject: u8, object: u8, rights: u8) -> usize
+pub fn put_v(
+    out: &mut [u8],
+    at: usize,
+    entries: &LetterTable,
+    subject: u8,
+    object: u8,
+    rights: u8,
+) -> usize
+    requires { ⌜ now entries ≡ letterTable ⌝ }
     requires { ⌜ at + length (row "V" (siteName subject ∷ siteName object ∷ letters rights ∷ [])) ≤ length (now out) ⌝ }
     ensures { λ r. ⌜ Wrote (now (out .entry)) (now (out .exit)) at (row "V" (siteName subject ∷ siteName object ∷ letters rights ∷ [])) r ⌝ }
 {
     let a = put_byte(out, at, b'V');
     let b = site_field(out, a, subject);
     let c = site_field(out, b, object);
-    let d = rights_field(out, c, rights);
+    let d = rights_field(out, c, entries, rights);
     put_byte(out, d, b'\n')
 }
 

@@ -2,7 +2,7 @@
 -- Assumes nothing.
 use mathlib.Core.Bool.{Bool, true, false}
 use mathlib.Core.List.{List, [], _∷_}
-use Prim.Native.Nat.{ℕ, _/_, _%_, _^_}
+use Prim.Native.Nat.{ℕ, _+_, _/_, _%_, _^_}
 use lib.Dec.{eqb}
 use lib.ListN.{length}
 use lib.Bits.{bitOr, bitAnd, bitXor}
@@ -28,9 +28,17 @@ acceptBit = 16
 abbrev pub everyBit : List ℕ
 everyBit = outBit ∷ inBit ∷ readBit ∷ evalBit ∷ acceptBit ∷ []
 
+-- how many there are
+abbrev pub rightCount : ℕ
+rightCount = length everyBit
+
 -- all of them, as a set
 abbrev pub everyRight : ℕ
 everyRight = 31
+
+-- how many sets of rights there are, from none to all
+abbrev pub setCount : ℕ
+setCount = everyRight + 1
 
 -- the set has the bit r (1, 2, 4, ..)
 unfoldable pub has : ℕ → ℕ → Bool

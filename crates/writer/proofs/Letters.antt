@@ -1,59 +1,53 @@
--- Laws of letters and names: in which parts they are written, and how long they are.
+-- The table of letters: its entry for any byte, and that the letters of an entry end at its first dot.
 -- Assumes nothing.
-use mathlib.Core.Path.{_≡_, refl, ap, _∙_}
-use mathlib.Core.Bool.{Bool, true, false}
-use mathlib.Core.List.{List, [], _∷_}
-use Prim.Native.Nat.{ℕ, _+_, _<_, _≤_, _/_, _%_}
+use mathlib.Core.Path.{_≡_, sym, ap, _∙_}
+use mathlib.Core.List.{List, [], _++_}
+use Prim.Native.Nat.{ℕ, _+_, _-_, _%_, _<_, _≤_}
 use native.Mathlib.Omega.{arith}
-use borrow.Author.Tests.{eq-eqb, ne-eqb}
-use lib.ListN.{length}
-use Rattle.sets.specs.Lists.{_⧺_, only, keep, concat}
-use Rattle.sets.specs.Bits.{has}
-use Rattle.sets.proofs.Lists.{length-cat}
-use Rattle.klaim.specs.Listing.{letter, letters, siteName}
-use Rattle.writer.proofs.Numeral.{numeral-short}
+use native.Mathlib.Decide.{decLt}
+use lib.ListN.{length, getD, replicate, getD-replicate, List·getD-append}
+use lib.Seq.{getD-append-add}
+use Rattle.sets.specs.Bits.{rightCount, setCount}
+use Rattle.sets.proofs.Lists.{All-in, in-getD, cat-append}
+use Rattle.sets.proofs.Tables.{getD-table}
+use Rattle.klaim.specs.Listing.{letters}
+use Rattle.klaim.proofs.Letters.{letters-small, letters-low}
+use Rattle.writer.specs.Letters.{dot, padded, letterTable}
 
--- the letter x, if the set m has the bit r
-abbrev pub mark : ℕ → ℕ → ℕ → List ℕ
-mark m r x = only (has m r) x
+-- a place of a padded list: one of the list's own, or a dot
+module _ (xs : List ℕ) (i : ℕ) where
+  pub at-letter : i < length xs → getD (padded xs) i 0 ≡ getD xs i 0
+  unfolding padded
+  at-letter h = ap (λ (l : List ℕ). getD l i 0) (cat-append xs _) ∙ List·getD-append xs _ 0 i h
 
-pub mark-yes : (m r x : ℕ) → m / r % 2 ≡ 1 → mark m r x ≡ x ∷ []
-unfolding only has
-mark-yes m r x h = rw (eq-eqb (m / r % 2) 1 h)
+  at-dot : length xs ≤ i → i < rightCount → getD (padded xs) i 0 ≡ dot
+  unfolding padded
+  at-dot h k =
+      let n = rightCount - length xs in
+      let e : i ≡ length xs + (i - length xs) = omega (arith, h) in
+      ap (λ (l : List ℕ). getD l i 0) (cat-append xs (replicate n dot))
+      ∙ ap (λ (j : ℕ). getD (xs ++ replicate n dot) j 0) e
+      ∙ getD-append-add xs (replicate n dot) (i - length xs) 0
+      ∙ getD-replicate n (i - length xs) dot 0 (omega (arith, h, k))
 
-pub mark-no : (m r x : ℕ) → (m / r % 2 ≡ 1 → ⊥) → mark m r x ≡ []
-unfolding only has
-mark-no m r x h = rw (ne-eqb (m / r % 2) 1 h)
+-- the entry of a byte: bits that are no right do not count
+pub entry-right : (m : ℕ) → getD letterTable (m % setCount) [] ≡ padded (letters m)
+unfolding letterTable
+entry-right m = getD-table setCount (λ k. padded (letters k)) (m % setCount) [] (omega arith) ∙ ap padded (letters-low m)
 
--- the letter of one bit, and those of the others
-part : (b : Bool) (r : ℕ) (rs : List ℕ) → concat (λ r. letter r ∷ []) (only b r ⧺ rs) ≡ only b (letter r) ⧺ concat (λ r. letter r ∷ []) rs
-unfolding concat only _⧺_
-part true r rs = refl
-part false r rs = refl
+module _ (m i : ℕ) where
+  -- at a dot all letters are behind
+  pub dot-ends : getD (padded (letters m)) i 0 ≡ dot → length (letters m) ≤ i
+  dot-ends e = go (decLt i (length (letters m)))
+    where
+      go : Dec (i < length (letters m)) → length (letters m) ≤ i
+      go (yes l) = absurd (omega (arith, All-in (letters-small m) (in-getD 0 (letters m) i l), sym (at-letter (letters m) i l) ∙ e))
+      go (no l) = omega arith
 
-last : (b : Bool) (r : ℕ) → only b r ⧺ concat (λ r. letter r ∷ []) [] ≡ only b r
-unfolding concat only _⧺_
-last true r = refl
-last false r = refl
-
--- the letters, bit by bit
-pub letters-parts : (m : ℕ) → letters m ≡ mark m 1 111 ⧺ (mark m 2 105 ⧺ (mark m 4 114 ⧺ (mark m 8 101 ⧺ mark m 16 97)))
-unfolding letters keep letter
-letters-parts m = simp (part, last)
-
-pub length-letters : (m : ℕ) → length (letters m) ≡ length (mark m 1 111) + (length (mark m 2 105) + (length (mark m 4 114) + (length (mark m 8 101) + length (mark m 16 97))))
-length-letters m = ap length (letters-parts m) ∙ simp length-cat
-
-mark-short : (b : Bool) (x : ℕ) → length (only b x) ≤ 1
-unfolding only
-mark-short true x = omega arith
-mark-short false x = omega arith
-
--- at most five letters
-pub letters-short : (m : ℕ) → length (letters m) ≤ 5
-letters-short m = omega (arith, length-letters m, mark-short (has m 1) 111, mark-short (has m 2) 105, mark-short (has m 4) 114, mark-short (has m 8) 101, mark-short (has m 16) 97)
-
--- the name of a site has at most three bytes
-pub site-short : (s : ℕ) → s < 32 → length (siteName s) ≤ 3
-unfolding siteName
-site-short s h = omega (arith, numeral-short 1 s (omega arith))
+  -- before the first dot there is one more
+  pub letter-goes-on : i < rightCount → (getD (padded (letters m)) i 0 ≡ dot → ⊥) → i < length (letters m)
+  letter-goes-on k e = go (decLt i (length (letters m)))
+    where
+      go : Dec (i < length (letters m)) → i < length (letters m)
+      go (yes l) = l
+      go (no l) = absurd (e (at-dot (letters m) i (omega arith) k))

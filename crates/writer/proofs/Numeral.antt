@@ -1,4 +1,4 @@
--- Laws of numerals: the last digit behind the others, and how long one is.
+-- Laws of numerals: the last digit behind the others, and how long one is; how long the name of a site is.
 -- Assumes nothing.
 use mathlib.Core.Path.{_≡_, sym, ap, _∙_}
 use mathlib.Core.List.{List, [], _∷_}
@@ -11,7 +11,7 @@ use lib.ListN.{length}
 use borrow.Author.Tests.{lt-ltb, le-ltb}
 use Rattle.sets.specs.Lists.{_⧺_}
 use Rattle.sets.proofs.Lists.{length-cat}
-use Rattle.klaim.specs.Listing.{digits, numeral}
+use Rattle.klaim.specs.Listing.{digits, numeral, siteName}
 
 few : (k n : ℕ) → n < 10 → digits k n ≡ (48 + n) ∷ []
 unfolding digits
@@ -54,3 +54,8 @@ numeral-short (suc k) n h = go (decLt n 10) (λ d. numeral-short k (n / 10) (div
     go : Dec (n < 10) → (10 ≤ n → length (numeral (n / 10)) ≤ suc k) → length (numeral n) ≤ suc (suc k)
     go (yes d) ih = omega (arith, ap length (numeral-digit n d))
     go (no d) ih = omega (arith, length-last n (omega arith), ih (omega arith))
+
+-- the name of a site has at most three bytes
+pub site-short : (s : ℕ) → s < 32 → length (siteName s) ≤ 3
+unfolding siteName
+site-short s h = omega (arith, numeral-short 1 s (omega arith))

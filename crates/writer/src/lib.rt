@@ -4,10 +4,11 @@ ghost use mathlib.Core.Path.{_≡_};
 ghost use mathlib.Core.List.{[], _∷_};
 ghost use Prim.Native.Nat.{_+_, _<_, _≤_};
 ghost use lib.ListN.{length};
-ghost use Rattle.sets.specs.Lists.{only};
-ghost use Rattle.sets.specs.Bits.{has};
 ghost use Rattle.klaim.specs.Listing.{numeral, siteName, letters};
 ghost use Rattle.writer.specs.Wrote.{Wrote};
+ghost use Rattle.writer.specs.Letters.{letterTable};
+use sets::RIGHTS;
+use sets::SETS;
 
 // One byte.
 pub fn put_byte(out: &mut [u8], at: usize, byte: u8) -> usize
@@ -60,16 +61,71 @@ pub fn put_site(out: &mut [u8], at: usize, site: u8) -> usize
     put_number(out, next, site as u32)
 }
 
-// A letter, if the rights have its bit.
-fn put_right(out: &mut [u8], at: usize, rights: u8, bit: u8, mark: u8) -> usize
-    requires { ⌜ (0 < bit) × (at + length (only (has rights bit) mark) ≤ length (now out)) ⌝ }
-    ensures { λ r. ⌜ Wrote (now (out .entry)) (now (out .exit)) at (only (has rights bit) mark) r ⌝ }
+// Stands in an entry of the table behind the last letter.
+const DOT: u8 = b'.';
+
+// An entry for each set of rights, at the set's number.
+pub type LetterTable = [[u8; RIGHTS]; SETS];
+
+// No. 4 of document 02: the letters of each set of rights, in the order `oirea`, and dots up to the length of an entry.
+const LETTERS: LetterTable = [
+    *b".....",
+    *b"o....",
+    *b"i....",
+    *b"oi...",
+    *b"r....",
+    *b"or...",
+    *b"ir...",
+    *b"oir..",
+    *b"e....",
+    *b"oe...",
+    *b"ie...",
+    *b"oie..",
+    *b"re...",
+    *b"ore..",
+    *b"ire..",
+    *b"oire.",
+    *b"a....",
+    *b"oa...",
+    *b"ia...",
+    *b"oia..",
+    *b"ra...",
+    *b"ora..",
+    *b"ira..",
+    *b"oira.",
+    *b"ea...",
+    *b"oea..",
+    *b"iea..",
+    *b"oiea.",
+    *b"rea..",
+    *b"orea.",
+    *b"irea.",
+    *b"oirea",
+];
+
+// The table. Each call makes it anew: a caller with many sets to write lends one to all of them.
+pub fn letter_table() -> LetterTable
+    ensures { λ r. ⌜ r ≡ letterTable ⌝ }
 {
-    if rights / bit % 2 == 1 {
-        put_byte(out, at, mark)
-    } else {
-        at
+    LETTERS
+}
+
+// The letters of a set of rights, from the table: its entry up to the first dot. Bits that are no right do not count.
+pub fn put_letters_from(out: &mut [u8], at: usize, entries: &LetterTable, rights: u8) -> usize
+    requires { ⌜ (now entries ≡ letterTable) × (at + length (letters rights) ≤ length (now out)) ⌝ }
+    ensures { λ r. ⌜ Wrote (now (out .entry)) (now (out .exit)) at (letters rights) r ⌝ }
+{
+    let set = rights as usize % SETS;
+    let mut i = 0;
+    while i < RIGHTS {
+        let letter = entries[set][i];
+        if letter == DOT {
+            return at + i;
+        }
+        out[at + i] = letter;
+        i += 1;
     }
+    at + i
 }
 
 // The letters of a set of rights, in the order `oirea`.
@@ -77,9 +133,6 @@ pub fn put_letters(out: &mut [u8], at: usize, rights: u8) -> usize
     requires { ⌜ at + length (letters rights) ≤ length (now out) ⌝ }
     ensures { λ r. ⌜ Wrote (now (out .entry)) (now (out .exit)) at (letters rights) r ⌝ }
 {
-    let a = put_right(out, at, rights, 1, b'o');
-    let b = put_right(out, a, rights, 2, b'i');
-    let c = put_right(out, b, rights, 4, b'r');
-    let d = put_right(out, c, rights, 8, b'e');
-    put_right(out, d, rights, 16, b'a')
+    let entries = letter_table();
+    put_letters_from(out, at, &entries, rights)
 }

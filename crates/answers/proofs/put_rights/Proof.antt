@@ -1,5 +1,5 @@
 use native.Mathlib.Omega.{arith}
-use Rattle.writer.proofs.Letters.{letters-short}
+use Rattle.klaim.proofs.Letters.{letters-short}
 use borrow.Author.Needs.{needs}
 use Rattle.answers.proofs.put_rights.Statement.{statement}
 use Rattle.answers.proofs.put_rights.Tie as tie

@@ -18,7 +18,9 @@ cast-put-v-2 : tie.Need-cast-put-v-2
 cast-put-v-2 c = search needs
 
 put-v-requires : tie.Need-put-v-requires
-put-v-requires c κs = let a = c .before .before .before .args in omega (arith, v-short (a .i / 32) (a .i % 32) (a .rights) (omega arith) (omega arith))
+put-v-requires c κs =
+    let s = c .before .before .before in
+    (s .pre .0, omega (arith, v-short (s .args .i / 32) (s .args .i % 32) (s .args .rights) (omega arith) (omega arith)))
 
 same-length : tie.Need-same-length
 same-length c = search needs

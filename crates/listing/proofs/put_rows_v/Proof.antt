@@ -12,10 +12,13 @@ use Rattle.listing.proofs.put_rows_v.Tie as tie
 
 -- the V rows of the first i bytes are written, at most 16 bytes each
 abbrev Inv-loop : tie.InvT-loop
-Inv-loop out₀ at report next₀ i₀ out next i = (i ≤ 1024) × (next ≤ at + 16 * i) × Wrote out₀ out at (rowsTo report i) next
+Inv-loop out₀ at report entries next₀ i₀ out next i = (i ≤ 1024) × (next ≤ at + 16 * i) × Wrote out₀ out at (rowsTo report i) next
 
 abbrev μ-loop : tie.MeasureT-loop
-μ-loop out₀ at report next₀ i₀ out next i = 1024 - i
+μ-loop out₀ at report entries next₀ i₀ out next i = 1024 - i
+
+letter-table-requires : tie.Need-letter-table-requires Inv-loop μ-loop
+letter-table-requires c κs = search needs
 
 loop-holds : tie.Need-loop-holds Inv-loop μ-loop
 loop-holds c = (search needs, omega arith, wrote-as (sym (rows-none _)) (wrote-none _ _ (omega arith)))
@@ -24,7 +27,10 @@ element-copy-out-put-entry : tie.Need-element-copy-out-put-entry Inv-loop μ-loo
 element-copy-out-put-entry c = search needs
 
 put-entry-requires : tie.Need-put-entry-requires Inv-loop μ-loop
-put-entry-requires c κs = let h = wrote-long (c .before .before .before .loop .inv .2) in omega arith
+put-entry-requires c κs =
+    let l = c .before .before .before .before in
+    let h = wrote-long (l .loop .inv .2) in
+    (l .before .letter-table .ensures, omega arith, omega arith)
 
 add-i : tie.Need-add-i Inv-loop μ-loop
 add-i c = search needs
@@ -35,8 +41,8 @@ loop-less c = search needs
 loop-again : tie.Need-loop-again Inv-loop μ-loop
 loop-again c =
     let e = c .before .before .put-entry .ensures in
-    let l = c .before .before .before .before .before .before in
-    let r = now (l .before .before .args .report) in
+    let l = c .before .before .before .before .before .before .before in
+    let r = now (l .before .before .before .args .report) in
     let h = entry-short (l .loop .i) (getD r (l .loop .i) 0) (omega arith) in
     (omega arith, omega (arith, e .ends), wrote-as (sym (rows-more r (l .loop .i))) (wrote-then (l .loop .inv .2) e))
 
@@ -45,7 +51,7 @@ same-length c = wrote-long (c .before .loop .inv .2)
 
 returns : tie.Need-returns Inv-loop μ-loop
 returns c =
-    let r = now (c .before .before .before .args .report) in
+    let r = now (c .before .before .before .before .args .report) in
     let e : c .before .loop .i ≡ 1024 = omega arith in
     (omega arith, wrote-as (ap (rowsTo r) e ∙ rows-all r) (c .before .loop .inv .2))
 
@@ -55,6 +61,7 @@ put-rows-v-spec =
     (tie.spec
     Inv-loop
     μ-loop
+    letter-table-requires
     loop-holds
     element-copy-out-put-entry
     put-entry-requires

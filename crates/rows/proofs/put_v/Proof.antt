@@ -28,7 +28,9 @@ site-field-requires-2 c κs = omega (arith, length-row "V" (fields (c .before .b
 
 rights-field-requires : tie.Need-rights-field-requires
 unfolding text
-rights-field-requires c κs = omega (arith, length-row "V" (fields (c .before .before .before .before .before .before .before .before .before .before .before .before .before .before)))
+rights-field-requires c κs =
+    let s = c .before .before .before .before .before .before .before .before .before .before .before .before .before .before in
+    (s .pre .0, omega (arith, length-row "V" (fields s)))
 
 put-byte-requires-2 : tie.Need-put-byte-requires-2
 unfolding text

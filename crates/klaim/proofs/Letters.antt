@@ -1,0 +1,38 @@
+-- The letters of a set of rights: small letters, no more than there are rights; bits that are no right do not count.
+-- Assumes nothing.
+use mathlib.Core.Path.{_≡_, ap}
+use mathlib.Core.List.{List, [], _∷_}
+use Prim.Native.Nat.{ℕ, _%_, _≤_}
+use Prim.Native.Char.{code}
+use native.Mathlib.Omega.{arith}
+use lib.Dec.{eqb}
+use lib.ListN.{length}
+use Rattle.sets.specs.Lists.{All, done, more, keep, concat}
+use Rattle.sets.specs.Bits.{outBit, inBit, readBit, evalBit, everyBit, rightCount, setCount, has}
+use Rattle.sets.proofs.Lists.{cond-at, keep-short, keep-same, concat-short, All-concat-in}
+use Rattle.sets.proofs.Bits.{right-low}
+use Rattle.klaim.specs.Listing.{letter, letters}
+
+-- the bytes of the small letters begin with `a`
+abbrev pub Small : ℕ → Type 0
+Small x = code "a" ≤ x
+
+letter-small : (r : ℕ) → Small (letter r)
+unfolding letter
+letter-small r =
+    cond-at Small (eqb r outBit) (λ t. omega arith) (λ t.
+    cond-at Small (eqb r inBit) (λ t. omega arith) (λ t.
+    cond-at Small (eqb r readBit) (λ t. omega arith) (λ t.
+    cond-at Small (eqb r evalBit) (λ t. omega arith) (λ t. omega arith))))
+
+pub letters-small : (m : ℕ) → All Small (letters m)
+unfolding letters
+letters-small m = All-concat-in (λ r. letter r ∷ []) (keep (has m) everyBit) (λ r i. more (letter-small r) done)
+
+pub letters-short : (m : ℕ) → length (letters m) ≤ rightCount
+unfolding letters
+letters-short m = omega (arith, concat-short (λ r. letter r ∷ []) (λ r. omega arith) (keep (has m) everyBit), keep-short (has m) everyBit)
+
+pub letters-low : (m : ℕ) → letters (m % setCount) ≡ letters m
+unfolding letters
+letters-low m = ap (concat (λ r. letter r ∷ [])) (keep-same (has (m % setCount)) (has m) everyBit (right-low m))
