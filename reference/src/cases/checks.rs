@@ -1,8 +1,9 @@
 //! Checks over generated cases: the fast rules against a plain restatement
-//! of document 01, and what accepted nets promise about steps; and shares
-//! against a plain restatement of document 02, No. 7.
+//! of document 01, and what accepted nets promise about steps; and shares and
+//! letters against plain restatements of document 02, No. 7 and No. 4.
 
 use super::damage::drop_row;
+use super::letters::by_number;
 use super::listings;
 use super::nets::{accepted, widen, Style, LISTING};
 use super::process::BUSY;
@@ -213,6 +214,21 @@ fn shares_are_the_nearest() {
                 assert!(!nearer && (!as_near || share & 1 == 0), "{used} of {held}");
             }
         }
+    }
+}
+
+/// "Each entry has the letters of its set's bits, in the order `oirea`, and
+/// no other."
+#[test]
+fn letters_are_those_of_the_bits() {
+    let bits = [(1, 'o'), (2, 'i'), (4, 'r'), (8, 'e'), (16, 'a')];
+    let by_number = by_number();
+    assert_eq!(by_number.len(), 32);
+    for set in 0..=31 {
+        let held = bits.iter().filter(|(bit, _)| set & bit != 0);
+        let plain: String = held.map(|(_, letter)| letter).collect();
+        assert_eq!(listing::letters(set), plain, "set {set}");
+        assert_eq!(by_number[usize::from(set)], plain, "set {set}");
     }
 }
 

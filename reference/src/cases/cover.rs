@@ -4,8 +4,8 @@ use super::required::{required, Wanted};
 use super::shares::is_half;
 use super::Kind;
 use crate::engine::{State, MAX_THREADS};
-use crate::flow::{first_broken, net_places, reach, report, Broken};
-use crate::listing::{self, part, share, usage};
+use crate::flow::{first_broken, net_places, reach, report, Broken, Report};
+use crate::listing::{self, letters, part, share, usage};
 use crate::rows::*;
 use crate::script::{self, Command};
 use std::cmp::Ordering;
@@ -113,14 +113,22 @@ impl Watcher {
             Some(Broken::Tuple(_)) => self.note("broken: T"),
             Some(Broken::Line(q)) => self.line("broken", &net.lines[q], several(q)),
             None => {
-                let empty = report(&net, &estimate, &places).iter().all(|&rights| rights == 0);
-                let verdict = if empty { "report empty" } else { "report not empty" };
-                self.note(format!("accepted: {verdict}"));
+                self.report(&report(&net, &estimate, &places));
                 for q in (0..net.lines.len()).filter(|&q| several(q)) {
                     self.line("accepted", &net.lines[q], true);
                 }
                 self.shares(&net, &estimate);
             }
+        }
+    }
+
+    /// Whether there are V rows, and the rights in each.
+    fn report(&mut self, report: &Report) {
+        let empty = report.iter().all(|&rights| rights == 0);
+        let verdict = if empty { "report empty" } else { "report not empty" };
+        self.note(format!("accepted: {verdict}"));
+        for &rights in report.iter().filter(|&&rights| rights != 0) {
+            self.note(format!("rights printed: {}", letters(rights)));
         }
     }
 

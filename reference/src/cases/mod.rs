@@ -8,6 +8,7 @@ pub mod cover;
 mod damage;
 pub mod frames;
 pub mod heavy;
+mod letters;
 mod listings;
 mod nets;
 mod process;

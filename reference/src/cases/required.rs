@@ -1,6 +1,7 @@
 //! What the stored cases must have.
 
 use super::cover::NAMED_SHARES;
+use super::letters;
 use super::Kind;
 use crate::listing::MAX_INPUT;
 use crate::rows::*;
@@ -37,6 +38,7 @@ pub fn required(kind: Kind) -> Vec<Wanted> {
             all.extend(LIMITS.map(some));
             all.extend(SHARES.map(often));
             all.extend(NAMED_SHARES.map(|(held, used)| some(format!("share: {used} of {held}"))));
+            all.extend(printed());
             for line in ["out", "in", "read", "eval"] {
                 all.push(often(format!("broken: Q {line} towards several sites")));
                 all.push(often(format!("accepted: Q {line} towards several sites")));
@@ -54,6 +56,12 @@ pub fn required(kind: Kind) -> Vec<Wanted> {
         }
     }
     all
+}
+
+/// Every set of rights but the empty one, which has no V row.
+fn printed() -> impl Iterator<Item = Wanted> {
+    let sets = letters::by_number().into_iter().skip(1);
+    sets.map(|letters| some(format!("rights printed: {letters}")))
 }
 
 /// Texts refused: by number, and by the group of the row named.

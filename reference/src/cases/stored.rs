@@ -1,8 +1,10 @@
-//! The cases of the stored runs: those of documents 01 and 02, and such seeds
-//! that every thing which can be seen in a case is seen several times.
+//! The cases of the stored runs: those of documents 01 and 02, those that print
+//! every set of rights, and such seeds that every thing which can be seen in a
+//! case is seen several times.
 
 use super::cover::{seen, Cover, Seen};
 use super::heavy::{ESTIMATE, NET};
+use super::letters::every_set;
 use super::Kind;
 use std::collections::BTreeMap;
 
@@ -65,7 +67,9 @@ fn march_listings() -> Vec<String> {
 fn fixed_listings() -> Vec<Vec<u8>> {
     let mut texts = march_listings();
     texts.extend(SHARES.map(String::from));
-    texts.into_iter().map(String::into_bytes).collect()
+    let mut cases: Vec<Vec<u8>> = texts.into_iter().map(String::into_bytes).collect();
+    cases.extend(every_set());
+    cases
 }
 
 /// The cases that a kind begins with.
