@@ -1,8 +1,9 @@
-//! Named inputs for timing: the large net, hostile nets, and nets whose steps
-//! come back to the same state.
+//! Named inputs for timing: the large net, hostile nets, long reports, and
+//! nets whose steps come back to the same state.
 
+use super::rng::Rng;
 use super::Kind;
-use crate::listing::{part, MAX_INPUT};
+use crate::listing::{letters, part, MAX_INPUT};
 use crate::rows::*;
 
 /// Texts, an arrival, and steps as threes of bytes (k, m, r).
@@ -17,6 +18,9 @@ pub struct Heavy {
 /// A seed whose net of 32 sites and 256 lines is accepted, with 256 A rows
 /// and every B and E row in its estimate.
 const LARGE_SEED: u64 = 478;
+
+/// Texts of mixed sets, timed in turn.
+const TURNS: u64 = 16;
 
 /// Net M and its estimate.
 pub const NET: &str =
@@ -142,6 +146,29 @@ fn alike() -> Heavy {
     Heavy::new("256 T and A rows alike", format!("N,32\n{}", rows('T')), rows('A'))
 }
 
+/// An E row for each pair of sites, all of which are reported, and nothing to
+/// judge: `list` does little else than read and print.
+fn reported(name: &'static str, rights: impl Fn(usize, usize) -> u8) -> Heavy {
+    let rows = pairs(SITES, SITES, |s, t| format!("E,s{s},s{t},{}\n", letters(rights(s, t))));
+    Heavy::new(name, "N,32\n".to_string(), rows)
+}
+
+fn all_rights() -> Heavy {
+    reported("1,024 E rows, all rights", |_, _| ALL_RIGHTS)
+}
+
+/// Several texts whose sets are drawn by seed: a processor that is given one
+/// of them again and again learns which way each branch goes.
+pub fn mixed_sets() -> Vec<Heavy> {
+    let draw = |seed: u64| {
+        let rng = &mut Rng::new(seed);
+        let most = usize::from(ALL_RIGHTS);
+        let sets: Vec<u8> = (0..SITES * SITES).map(|_| rng.between(1, most) as u8).collect();
+        reported("1,024 E rows, mixed sets", |s, t| sets[SITES * s + t])
+    };
+    (1..=TURNS).map(draw).collect()
+}
+
 /// The input of a listing seed.
 fn seeded(name: &'static str, seed: u64) -> Heavy {
     let case = Kind::Listing.case(seed);
@@ -186,6 +213,7 @@ pub fn checks() -> Vec<Heavy> {
         accepts(),
         wide_accepts(),
         alike(),
+        all_rights(),
     ]
 }
 
@@ -317,9 +345,10 @@ pub fn arrived(passes: bool) -> Heavy {
     heavy.with_arrival(long_arrival(254, passes)).with_choices(&[[0, 0, 2]])
 }
 
-/// Every named input.
+/// Every named input; of those timed in turn, the first.
 pub fn all() -> Vec<Heavy> {
     let mut all = checks();
+    all.extend(mixed_sets().into_iter().take(1));
     all.push(halves());
     all.extend(cycles());
     all.extend([closed_doors(), arrived(false), arrived(true)]);
@@ -334,6 +363,7 @@ impl Heavy {
 
 #[cfg(test)]
 mod tests {
+    use super::super::letters::{by_number, tests::printed};
     use super::super::shares::is_half;
     use super::*;
     use crate::engine::State;
@@ -352,6 +382,16 @@ mod tests {
         assert_eq!((net.sites, net.lines.len(), estimate.tuples.len()), (32, 256, 256));
         assert!(estimate.binds.iter().all(|&mask| mask == Mask::MAX));
         assert!(estimate.rights.iter().flatten().all(|&rights| rights != 0));
+    }
+
+    #[test]
+    fn e_rows_are_printed() {
+        assert_eq!(printed(&all_rights().input()), vec!["oirea"; SITES * SITES]);
+        for heavy in mixed_sets() {
+            let printed = printed(&heavy.input());
+            assert_eq!(printed.len(), SITES * SITES);
+            assert!(by_number()[1..].iter().all(|letters| printed.contains(letters)));
+        }
     }
 
     #[test]

@@ -9,6 +9,7 @@ mod theirs;
 
 use reference::cases::heavy::{self, Heavy};
 use std::cell::RefCell;
+use std::slice::from_ref;
 
 const ROUNDS: usize = 15;
 /// Seconds that one measurement takes at least.
@@ -121,49 +122,56 @@ fn pair<'a>(
 }
 
 /// A call that is made again and again from here, and needs nothing before.
+/// It is told which of the inputs is taken: each in turn.
 fn plain<'a>(
     call: &'static str,
-    heavy: &'a Heavy,
-    ours: impl Fn(&'a Heavy) -> u32 + 'a,
-    theirs: impl Fn(&'a Heavy) -> u32 + 'a,
+    turns: &'a [Heavy],
+    ours: impl Fn(usize) -> u32 + 'a,
+    theirs: impl Fn(usize) -> u32 + 'a,
 ) -> Job<'a> {
-    let last = |times: usize, once: &dyn Fn() -> u32| (0..times).fold(0, |_, _| once());
-    let ours = Side { work: Box::new(move |n| last(n, &|| ours(heavy))), idle: nothing() };
-    let theirs = Side { work: Box::new(move |n| last(n, &|| theirs(heavy))), idle: nothing() };
-    Job { call, input: heavy.name, sides: [ours, theirs] }
+    let last = |times: usize, once: &dyn Fn(usize) -> u32| {
+        (0..times).fold(0, |_, time| once(time % turns.len()))
+    };
+    let ours = Side { work: Box::new(move |n| last(n, &ours)), idle: nothing() };
+    let theirs = Side { work: Box::new(move |n| last(n, &theirs)), idle: nothing() };
+    Job { call, input: turns[0].name, sides: [ours, theirs] }
 }
 
-fn check_job(heavy: &Heavy) -> Job<'_> {
+fn check_job(turns: &[Heavy]) -> Job<'_> {
     let (mine, other) = (RefCell::new([0u8; 1024]), RefCell::new([0u8; 1024]));
-    ours::check(heavy, &mut *mine.borrow_mut());
-    theirs::check(heavy, &mut *other.borrow_mut());
-    assert_eq!(mine, other, "{}: the reports differ", heavy.name);
+    for heavy in turns {
+        ours::check(heavy, &mut *mine.borrow_mut());
+        theirs::check(heavy, &mut *other.borrow_mut());
+        assert_eq!(mine, other, "{}: the reports differ", heavy.name);
+    }
     plain(
         "check",
-        heavy,
-        move |heavy| ours::check(heavy, &mut *mine.borrow_mut()),
-        move |heavy| theirs::check(heavy, &mut *other.borrow_mut()),
+        turns,
+        move |at| ours::check(&turns[at], &mut *mine.borrow_mut()),
+        move |at| theirs::check(&turns[at], &mut *other.borrow_mut()),
     )
 }
 
+fn read_job(turns: &[Heavy]) -> Job<'_> {
+    plain("read", turns, |at| ours::read(&turns[at]), |at| theirs::read(&turns[at]))
+}
+
 /// Document 01's `lotcheck` as a call: input bytes to output bytes.
-fn list_job(heavy: &Heavy) -> Job<'_> {
+fn list_job(turns: &[Heavy]) -> Job<'_> {
     assert_eq!(ours::listing_size(), ours::LISTING_BYTES, "the size of a listing has changed");
-    let input = heavy.input();
-    let (mine, other) = (input.clone(), input);
+    let inputs: Vec<Vec<u8>> = turns.iter().map(Heavy::input).collect();
     let output = RefCell::new([0u8; ours::LISTING_BYTES]);
-    let length = ours::list(&mine, &mut output.borrow_mut());
-    assert_eq!(
-        output.borrow()[..length],
-        theirs::list(&other),
-        "{}: the listings differ",
-        heavy.name
-    );
+    for input in &inputs {
+        let length = ours::list(input, &mut output.borrow_mut());
+        let listing = &output.borrow()[..length];
+        assert_eq!(listing, theirs::list(input), "{}: the listings differ", turns[0].name);
+    }
+    let (mine, other) = (inputs.clone(), inputs);
     plain(
         "list",
-        heavy,
-        move |_| ours::list(&mine, &mut output.borrow_mut()) as u32,
-        move |_| theirs::list(&other).len() as u32,
+        turns,
+        move |at| ours::list(&mine[at], &mut output.borrow_mut()) as u32,
+        move |at| theirs::list(&other[at]).len() as u32,
     )
 }
 
@@ -188,10 +196,12 @@ fn door_job(heavy: &Heavy, at: [u8; 3]) -> Job<'_> {
 }
 
 fn jobs<'a>(inputs: &'a Inputs) -> Vec<Job<'a>> {
-    let Inputs { march, large, halves, checks, cycles, refusals, mixed, closed, arrived } = inputs;
-    let mut jobs: Vec<Job> = checks.iter().map(check_job).collect();
-    jobs.extend(checks.iter().map(|heavy| plain("read", heavy, ours::read, theirs::read)));
-    jobs.extend(checks.iter().chain([halves]).map(list_job));
+    let Inputs { march, large, halves, checks, sets, cycles, refusals, mixed, closed, arrived } =
+        inputs;
+    let texts = || checks.iter().map(from_ref).chain([&sets[..]]);
+    let mut jobs: Vec<Job> = texts().map(check_job).collect();
+    jobs.extend(texts().map(read_job));
+    jobs.extend(texts().chain([from_ref(halves)]).map(list_job));
     jobs.extend([march, large, mixed].map(start_job));
     jobs.extend(cycles.iter().filter(|heavy| !heavy.arrival.is_empty()).map(bring_job));
     jobs.extend(arrived.iter().map(bring_job));
@@ -215,6 +225,8 @@ struct Inputs {
     large: Heavy,
     halves: Heavy,
     checks: Vec<Heavy>,
+    /// Timed in turn.
+    sets: Vec<Heavy>,
     cycles: Vec<Heavy>,
     refusals: Vec<Heavy>,
     mixed: Heavy,
@@ -228,6 +240,7 @@ fn main() {
         large: heavy::large(),
         halves: heavy::halves(),
         checks: heavy::checks(),
+        sets: heavy::mixed_sets(),
         cycles: heavy::cycles(),
         refusals: heavy::refusals(),
         mixed: heavy::mixed(),
