@@ -2,6 +2,7 @@
 //! A function that writes into a lent buffer does so from `at` on and answers the place behind what it wrote.
 ghost use Prim.Native.Nat.{_+_, _≤_};
 ghost use lib.ListN.{length};
+ghost use Rattle.sets.specs.Bits.{rightCount};
 use libc::STDOUT_FILENO;
 use writer::put_byte;
 use writer::put_text;
@@ -38,8 +39,8 @@ pub fn put_count(out: &mut [u8], at: usize, n: usize) -> usize
 
 // The letters of a set of rights.
 fn put_rights(out: &mut [u8], at: usize, rights: u8) -> usize
-    requires { ⌜ at + 5 ≤ length (now out) ⌝ }
-    ensures { λ r. ⌜ (at ≤ r) × (r ≤ at + 5) ⌝ }
+    requires { ⌜ at + rightCount ≤ length (now out) ⌝ }
+    ensures { λ r. ⌜ (at ≤ r) × (r ≤ at + rightCount) ⌝ }
 {
     writer::put_letters(out, at, rights)
 }

@@ -9,8 +9,8 @@ use lib.Dec.{eqb}
 use lib.ListN.{length, take, getD}
 use borrow.Author.Tests.{eq-eqb, ne-eqb}
 use Rattle.sets.specs.Lists.{only, keep, sum, below}
-use Rattle.sets.specs.Bits.{has, size}
-use Rattle.sets.proofs.Lists.{length-cat}
+use Rattle.sets.specs.Bits.{everyBit, rightCount, has, size}
+use Rattle.sets.proofs.Lists.{length-cat, keep-short}
 use Rattle.sets.proofs.Runs.{sum-below, sum-take}
 
 -- a bit, as a number
@@ -26,11 +26,12 @@ pub size-bits : (m : ℕ) → size m ≡ m % 2 + m / 2 % 2 + m / 4 % 2 + m / 8 %
 unfolding size keep
 size-bits m = simp (length-cat, bit) (omega arith)
 
--- a set has at most five rights
-pub size-most : (m : ℕ) → size m ≤ 5
-size-most m = omega (arith, size-bits m)
+-- a set has no more rights than there are
+pub size-most : (m : ℕ) → size m ≤ rightCount
+unfolding size
+size-most m = keep-short (has m) everyBit
 
-pub counted-most : {v : ℕ} (m : ℕ) → v ≡ size m → v ≤ 5
+pub counted-most : {v : ℕ} (m : ℕ) → v ≡ size m → v ≤ rightCount
 counted-most m e = omega (arith, size-most m)
 
 -- a turn of a loop that counts: over the numbers below t, and over a list

@@ -1,7 +1,7 @@
 -- The letters of a set of rights: small letters, no more than there are rights; bits that are no right do not count.
 -- Assumes nothing.
 use mathlib.Core.Path.{_≡_, ap}
-use mathlib.Core.List.{List, [], _∷_}
+use mathlib.Core.List.{[], _∷_}
 use Prim.Native.Nat.{ℕ, _%_, _≤_}
 use Prim.Native.Char.{code}
 use native.Mathlib.Omega.{arith}
@@ -13,9 +13,9 @@ use Rattle.sets.proofs.Lists.{cond-at, keep-short, keep-same, concat-short, All
 use Rattle.sets.proofs.Bits.{right-low}
 use Rattle.klaim.specs.Listing.{letter, letters}
 
--- the bytes of the small letters begin with `a`
+-- a small letter
 abbrev pub Small : ℕ → Type 0
-Small x = code "a" ≤ x
+Small x = (code "a" ≤ x) × (x ≤ code "z")
 
 letter-small : (r : ℕ) → Small (letter r)
 unfolding letter

@@ -10,4 +10,5 @@ pub mod Ready
 pub mod Choices
 pub mod Above
 pub mod Share
+pub mod Numeral
 pub mod Letters

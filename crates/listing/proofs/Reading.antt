@@ -17,7 +17,7 @@ use Rattle.klaim.specs.Listing.{numeral, row, homeCount, usedCount, listVerdict
 use Rattle.tables.specs.View.{netView, estimateView}
 use Rattle.writer.specs.Wrote.{Wrote}
 use Rattle.rows.proofs.Rows.{length-row}
-use Rattle.writer.proofs.Numeral.{numeral-short}
+use Rattle.klaim.proofs.Numeral.{numeral-short}
 use Rattle.klaim.specs.Rows.{text}
 use Rattle.usable.specs.Rights.{Rights}
 use Rattle.worlds.specs.declared.WorldRead.{WorldRead}

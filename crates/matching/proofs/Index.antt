@@ -16,7 +16,7 @@ use lib.ListN.{length, getD, take, drop, length-take, length-map, set, replicate
 use lib.Seq.{ext-getD, getD-take, getD-set-same, getD-set-other}
 use Rattle.sets.specs.Lists.{_&_, either, imp, all, any, only, keep, same, below, table, tableFrom, fits, product}
 use Rattle.sets.specs.Bits.{has, mem, sites, join}
-use Rattle.sets.proofs.Lists.{and-true, and-false, and-yes, and-no, eqb-suc, iff, and-i, and-l, and-r, imp-e, any-at, any-i, length-cat, keep-short, or-case, or-l, or-r, eqb-eq, ltb-lt, lt-ltb}
+use Rattle.sets.proofs.Lists.{and-true, and-false, and-yes, and-no, eqb-suc, iff, and-i, and-l, and-r, imp-e, any-at, any-i, length-cat, only-long, keep-short, or-case, or-l, or-r, eqb-eq, ltb-lt, lt-ltb}
 use borrow.Author.Tests.{eq-eqb, ne-eqb, le-ltb}
 use Rattle.sets.proofs.Shared.{mem-single, none-high}
 use Rattle.sets.proofs.Bits.{digit, has-or, has-none, has-half, same-bits}
@@ -26,7 +26,7 @@ use Rattle.klaim.specs.Invariant.{allBelow, distinct}
 use Rattle.tables.specs.View.{rowAt, rowsView}
 use Rattle.tables.proofs.Lines.{getD-map}
 use Rattle.matching.specs.Index.{inColumn, inRows, inIndex, Indexed, Entered, Low}
-use Rattle.matching.proofs.Laws.{count-rule, only-long, keep-more, keep-none, Sets, sets-long, fits-long, fits-end, fits-at, row-get, among-low}
+use Rattle.matching.proofs.Laws.{count-rule, keep-more, keep-none, Sets, sets-long, fits-long, fits-end, fits-at, row-get, among-low}
 
 -- a bit that the other number lacks
 less-low : (a b x y z : ℕ) → (x ≡ 0) ⊎ (x ≡ 1) → (y ≡ 0) ⊎ (y ≡ 1) → a % 2 ≡ x → b % 2 ≡ y → z % 2 ≡ x - min x y → mem 0 z ≡ (mem 0 a & not (mem 0 b))

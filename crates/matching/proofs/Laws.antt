@@ -12,7 +12,7 @@ use lib.ListN.{length, getD, take, drop, length-take, length-drop, length-map, l
 use lib.Seq.{drop-cons, getD-take, getD-drop}
 use Rattle.sets.specs.Lists.{All, done, more, _&_, any, only, keep, among, tableFrom, table, same, fits, product}
 use Rattle.sets.specs.Bits.{mem, sites}
-use Rattle.sets.proofs.Lists.{iff, and-r, among-in, any-i, eq-eqb, eqb-eq, keep-snoc}
+use Rattle.sets.proofs.Lists.{iff, and-r, among-in, any-i, eq-eqb, eqb-eq, only-long, keep-snoc}
 use Rattle.sets.proofs.Counting.{Unlike}
 use Rattle.sets.proofs.Tables.{table-snoc}
 use Rattle.sets.proofs.Bits.{sites-in, in-sites}
@@ -61,11 +61,6 @@ unfolding fits
 fits-end xss row j h l = rw (drop-of-length-le xss h, drop-of-length-le row l)
 
 -- one more element of a table that is kept or not
-pub only-long : {A : Type 0} (b : Bool) (x : A) → length (only b x) ≡ cond b 1 0
-unfolding only
-only-long true x = refl
-only-long false x = refl
-
 pub keep-more : {A : Type 0} (p : A → Bool) (n : ℕ) (f : ℕ → A) (m : ℕ) → suc n ≡ m → length (keep p (table n f)) + cond (p (f n)) 1 0 ≡ length (keep p (table m f))
 keep-more {A} p n f m e =
     ap (λ (k : ℕ). length (keep p (table n f)) + k) (sym (only-long (p (f n)) (f n)))

@@ -12,8 +12,8 @@ use Rattle.klaim.specs.Rows.{text}
 use Rattle.klaim.specs.Reader.{refused, World}
 use Rattle.klaim.specs.Analysis.{brokenT, brokenQ}
 use Rattle.klaim.specs.Listing.{numeral, siteName, letters, tail, row, listRead, listVerdict}
+use Rattle.klaim.proofs.Numeral.{numeral-short, site-short}
 use Rattle.klaim.proofs.Letters.{letters-short}
-use Rattle.writer.proofs.Numeral.{numeral-short, site-short}
 
 -- the bytes of fields, each behind its comma, and of the newline
 abbrev pub width : List (List ℕ) → ℕ

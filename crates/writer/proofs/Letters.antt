@@ -41,7 +41,7 @@ module _ (m i : ℕ) where
   dot-ends e = go (decLt i (length (letters m)))
     where
       go : Dec (i < length (letters m)) → length (letters m) ≤ i
-      go (yes l) = absurd (omega (arith, All-in (letters-small m) (in-getD 0 (letters m) i l), sym (at-letter (letters m) i l) ∙ e))
+      go (yes l) = absurd (omega (arith, All-in (letters-small m) (in-getD 0 (letters m) i l) .0, sym (at-letter (letters m) i l) ∙ e))
       go (no l) = omega arith
 
   -- before the first dot there is one more

@@ -1,5 +1,5 @@
 //! Writing into a lent buffer: bytes, texts, numbers, names of sites, letters of rights.
-//! Each function writes from `at` on and answers the place behind what it wrote.
+//! Each function that is lent a buffer writes from `at` on and answers the place behind what it wrote.
 ghost use mathlib.Core.Path.{_≡_};
 ghost use mathlib.Core.List.{[], _∷_};
 ghost use Prim.Native.Nat.{_+_, _<_, _≤_};
@@ -103,7 +103,7 @@ const LETTERS: LetterTable = [
     *b"oirea",
 ];
 
-// The table. Each call makes it anew: a caller with many sets to write lends one to all of them.
+// The table. It is made anew at each call: who writes many sets makes it once and lends it to `put_letters_from`.
 pub fn letter_table() -> LetterTable
     ensures { λ r. ⌜ r ≡ letterTable ⌝ }
 {
@@ -111,14 +111,14 @@ pub fn letter_table() -> LetterTable
 }
 
 // The letters of a set of rights, from the table: its entry up to the first dot. Bits that are no right do not count.
-pub fn put_letters_from(out: &mut [u8], at: usize, entries: &LetterTable, rights: u8) -> usize
-    requires { ⌜ (now entries ≡ letterTable) × (at + length (letters rights) ≤ length (now out)) ⌝ }
+pub fn put_letters_from(out: &mut [u8], at: usize, lent: &LetterTable, rights: u8) -> usize
+    requires { ⌜ (now lent ≡ letterTable) × (at + length (letters rights) ≤ length (now out)) ⌝ }
     ensures { λ r. ⌜ Wrote (now (out .entry)) (now (out .exit)) at (letters rights) r ⌝ }
 {
     let set = rights as usize % SETS;
     let mut i = 0;
     while i < RIGHTS {
-        let letter = entries[set][i];
+        let letter = lent[set][i];
         if letter == DOT {
             return at + i;
         }
@@ -133,6 +133,6 @@ pub fn put_letters(out: &mut [u8], at: usize, rights: u8) -> usize
     requires { ⌜ at + length (letters rights) ≤ length (now out) ⌝ }
     ensures { λ r. ⌜ Wrote (now (out .entry)) (now (out .exit)) at (letters rights) r ⌝ }
 {
-    let entries = letter_table();
-    put_letters_from(out, at, &entries, rights)
+    let made = letter_table();
+    put_letters_from(out, at, &made, rights)
 }

@@ -157,8 +157,8 @@ fn all_rights() -> Heavy {
     reported("1,024 E rows, all rights", |_, _| ALL_RIGHTS)
 }
 
-/// Several texts whose sets are drawn by seed: a processor that is given one
-/// of them again and again learns which way each branch goes.
+/// Several texts whose sets are drawn by seed: on one text again and again a
+/// processor predicts nearly every branch.
 pub fn mixed_sets() -> Vec<Heavy> {
     let draw = |seed: u64| {
         let rng = &mut Rng::new(seed);

@@ -18,7 +18,8 @@ pub fn by_number() -> Vec<String> {
     sets
 }
 
-/// Inputs that print each set once, in the order of their numbers.
+/// Inputs that print each set but the empty one once, in the order of their
+/// numbers.
 pub fn every_set() -> [Vec<u8>; 3] {
     [by_estimate(), by_home(), by_lines()]
         .map(|(net, estimate)| assemble(&net_rows(&net), &estimate_rows(&estimate)))

@@ -1,6 +1,6 @@
 //! The cases of the stored runs: those of documents 01 and 02, those that print
-//! every set of rights, and such seeds that every thing which can be seen in a
-//! case is seen several times.
+//! every set of rights but the empty one, and such seeds that every thing which
+//! can be seen in a case is seen several times.
 
 use super::cover::{seen, Cover, Seen};
 use super::heavy::{ESTIMATE, NET};

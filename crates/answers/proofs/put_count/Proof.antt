@@ -1,5 +1,5 @@
 use native.Mathlib.Omega.{arith}
-use Rattle.writer.proofs.Numeral.{numeral-short}
+use Rattle.klaim.proofs.Numeral.{numeral-short}
 use borrow.Author.Needs.{needs}
 use Rattle.answers.proofs.put_count.Statement.{statement}
 use Rattle.answers.proofs.put_count.Tie as tie

@@ -9,7 +9,7 @@ use lib.ListN.{length}
 use Rattle.sets.specs.Lists.{_⧺_}
 use Rattle.klaim.specs.Listing.{numeral}
 use Rattle.writer.proofs.Wrote.{wrote-then, wrote-as}
-use Rattle.writer.proofs.Numeral.{numeral-digit, numeral-last, length-last}
+use Rattle.klaim.proofs.Numeral.{numeral-digit, numeral-last, length-last}
 use Rattle.writer.proofs.put_number.Reads as put-number
 use Rattle.writer.proofs.put_number.Kinds as put-number-kinds
 use Rattle.writer.proofs.+put_number.Lts-put_number as put-number-lts
