@@ -1,4 +1,4 @@
--- The letters of a set of rights: small letters, no more than there are rights; bits that are no right do not count.
+-- The letters of a set of rights: lower-case letters, no more than there are rights; bits that are no right do not count.
 -- Assumes nothing.
 use mathlib.Core.Path.{_≡_, ap}
 use mathlib.Core.List.{[], _∷_}
@@ -13,21 +13,21 @@ use Rattle.sets.proofs.Lists.{cond-at, keep-short, keep-same, concat-short, All
 use Rattle.sets.proofs.Bits.{right-low}
 use Rattle.klaim.specs.Listing.{letter, letters}
 
--- a small letter
-abbrev pub Small : ℕ → Type 0
-Small x = (code "a" ≤ x) × (x ≤ code "z")
+-- a lower-case letter
+abbrev pub Lowercase : ℕ → Type 0
+Lowercase x = (code "a" ≤ x) × (x ≤ code "z")
 
-letter-small : (r : ℕ) → Small (letter r)
+letter-lowercase : (r : ℕ) → Lowercase (letter r)
 unfolding letter
-letter-small r =
-    cond-at Small (eqb r outBit) (λ t. omega arith) (λ t.
-    cond-at Small (eqb r inBit) (λ t. omega arith) (λ t.
-    cond-at Small (eqb r readBit) (λ t. omega arith) (λ t.
-    cond-at Small (eqb r evalBit) (λ t. omega arith) (λ t. omega arith))))
+letter-lowercase r =
+    cond-at Lowercase (eqb r outBit) (λ t. omega arith) (λ t.
+    cond-at Lowercase (eqb r inBit) (λ t. omega arith) (λ t.
+    cond-at Lowercase (eqb r readBit) (λ t. omega arith) (λ t.
+    cond-at Lowercase (eqb r evalBit) (λ t. omega arith) (λ t. omega arith))))
 
-pub letters-small : (m : ℕ) → All Small (letters m)
+pub letters-lowercase : (m : ℕ) → All Lowercase (letters m)
 unfolding letters
-letters-small m = All-concat-in (λ r. letter r ∷ []) (keep (has m) everyBit) (λ r i. more (letter-small r) done)
+letters-lowercase m = All-concat-in (λ r. letter r ∷ []) (keep (has m) everyBit) (λ r i. more (letter-lowercase r) done)
 
 pub letters-short : (m : ℕ) → length (letters m) ≤ rightCount
 unfolding letters

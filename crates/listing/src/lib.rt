@@ -23,14 +23,14 @@ use writer::LetterTable;
 pub const LISTING: usize = 17006;
 
 // The V row of byte i of a report, if it has a right.
-fn put_entry(out: &mut [u8], at: usize, lent: &LetterTable, i: usize, rights: u8) -> usize
-    requires { ⌜ (now lent ≡ letterTable) × (i < reportSize) × (at + 16 ≤ length (now out)) ⌝ }
+fn put_entry(out: &mut [u8], at: usize, table: &LetterTable, i: usize, rights: u8) -> usize
+    requires { ⌜ (now table ≡ letterTable) × (i < reportSize) × (at + 16 ≤ length (now out)) ⌝ }
     ensures { λ r. ⌜ Wrote (now (out .entry)) (now (out .exit)) at (entryV i rights) r ⌝ }
 {
     if rights == 0 {
         return at;
     }
-    rows::put_v(out, at, lent, (i / SITES) as u8, (i % SITES) as u8, rights)
+    rows::put_v(out, at, table, (i / SITES) as u8, (i % SITES) as u8, rights)
 }
 
 // The V rows of a report, in byte order, each of at most 16 bytes. One table of letters serves them all.
@@ -38,11 +38,11 @@ fn put_rows_v(out: &mut [u8], at: usize, report: &[u8; 1024]) -> usize
     requires { ⌜ (length (now report) ≡ reportSize) × (at + 16384 ≤ length (now out)) ⌝ }
     ensures { λ r. ⌜ (r ≤ at + 16384) × Wrote (now (out .entry)) (now (out .exit)) at (rowsV (now (report .entry))) r ⌝ }
 {
-    let made = writer::letter_table();
+    let table = writer::letter_table();
     let mut next = at;
     let mut i = 0;
     while i < REPORT {
-        next = put_entry(out, next, &made, i, report[i]);
+        next = put_entry(out, next, &table, i, report[i]);
         i += 1;
     }
     next

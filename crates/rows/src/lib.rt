@@ -32,12 +32,12 @@ fn site_field(out: &mut [u8], at: usize, site: u8) -> usize
 }
 
 // A comma and the letters of a set of rights.
-fn rights_field(out: &mut [u8], at: usize, lent: &LetterTable, rights: u8) -> usize
-    requires { ⌜ (now lent ≡ letterTable) × (at + length (field (letters rights)) ≤ length (now out)) ⌝ }
+fn rights_field(out: &mut [u8], at: usize, table: &LetterTable, rights: u8) -> usize
+    requires { ⌜ (now table ≡ letterTable) × (at + length (field (letters rights)) ≤ length (now out)) ⌝ }
     ensures { λ r. ⌜ Wrote (now (out .entry)) (now (out .exit)) at (field (letters rights)) r ⌝ }
 {
     let next = put_byte(out, at, b',');
-    put_letters_from(out, next, lent, rights)
+    put_letters_from(out, next, table, rights)
 }
 
 // `accepted`, and how many rights are reported.
@@ -76,19 +76,19 @@ pub fn put_broken(out: &mut [u8], at: usize, kind: u8, number: u32) -> usize
 pub fn put_v(
     out: &mut [u8],
     at: usize,
-    lent: &LetterTable,
+    table: &LetterTable,
     subject: u8,
     object: u8,
     rights: u8,
 ) -> usize
-    requires { ⌜ now lent ≡ letterTable ⌝ }
+    requires { ⌜ now table ≡ letterTable ⌝ }
     requires { ⌜ at + length (row "V" (siteName subject ∷ siteName object ∷ letters rights ∷ [])) ≤ length (now out) ⌝ }
     ensures { λ r. ⌜ Wrote (now (out .entry)) (now (out .exit)) at (row "V" (siteName subject ∷ siteName object ∷ letters rights ∷ [])) r ⌝ }
 {
     let a = put_byte(out, at, b'V');
     let b = site_field(out, a, subject);
     let c = site_field(out, b, object);
-    let d = rights_field(out, c, lent, rights);
+    let d = rights_field(out, c, table, rights);
     put_byte(out, d, b'\n')
 }
 

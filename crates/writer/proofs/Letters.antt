@@ -11,7 +11,7 @@ use Rattle.sets.specs.Bits.{rightCount, setCount}
 use Rattle.sets.proofs.Lists.{All-in, in-getD, cat-append}
 use Rattle.sets.proofs.Tables.{getD-table}
 use Rattle.klaim.specs.Listing.{letters}
-use Rattle.klaim.proofs.Letters.{letters-small, letters-low}
+use Rattle.klaim.proofs.Letters.{letters-lowercase, letters-low}
 use Rattle.writer.specs.Letters.{dot, padded, letterTable}
 
 -- a place of a padded list: one of the list's own, or a dot
@@ -41,7 +41,7 @@ module _ (m i : ℕ) where
   dot-ends e = go (decLt i (length (letters m)))
     where
       go : Dec (i < length (letters m)) → length (letters m) ≤ i
-      go (yes l) = absurd (omega (arith, All-in (letters-small m) (in-getD 0 (letters m) i l) .0, sym (at-letter (letters m) i l) ∙ e))
+      go (yes l) = absurd (omega (arith, All-in (letters-lowercase m) (in-getD 0 (letters m) i l) .0, sym (at-letter (letters m) i l) ∙ e))
       go (no l) = omega arith
 
   -- before the first dot there is one more

@@ -61,7 +61,7 @@ pub fn put_site(out: &mut [u8], at: usize, site: u8) -> usize
     put_number(out, next, site as u32)
 }
 
-// Stands in an entry of the table behind the last letter.
+// What stands in an entry of the table behind the last letter.
 const DOT: u8 = b'.';
 
 // An entry for each set of rights, at the set's number.
@@ -103,7 +103,7 @@ const LETTERS: LetterTable = [
     *b"oirea",
 ];
 
-// The table. It is made anew at each call: who writes many sets makes it once and lends it to `put_letters_from`.
+// The table. It is made anew at each call: a caller that writes many sets makes it once and lends it to `put_letters_from`.
 pub fn letter_table() -> LetterTable
     ensures { λ r. ⌜ r ≡ letterTable ⌝ }
 {
@@ -111,14 +111,14 @@ pub fn letter_table() -> LetterTable
 }
 
 // The letters of a set of rights, from the table: its entry up to the first dot. Bits that are no right do not count.
-pub fn put_letters_from(out: &mut [u8], at: usize, lent: &LetterTable, rights: u8) -> usize
-    requires { ⌜ (now lent ≡ letterTable) × (at + length (letters rights) ≤ length (now out)) ⌝ }
+pub fn put_letters_from(out: &mut [u8], at: usize, table: &LetterTable, rights: u8) -> usize
+    requires { ⌜ (now table ≡ letterTable) × (at + length (letters rights) ≤ length (now out)) ⌝ }
     ensures { λ r. ⌜ Wrote (now (out .entry)) (now (out .exit)) at (letters rights) r ⌝ }
 {
     let set = rights as usize % SETS;
     let mut i = 0;
     while i < RIGHTS {
-        let letter = lent[set][i];
+        let letter = table[set][i];
         if letter == DOT {
             return at + i;
         }
@@ -133,6 +133,6 @@ pub fn put_letters(out: &mut [u8], at: usize, rights: u8) -> usize
     requires { ⌜ at + length (letters rights) ≤ length (now out) ⌝ }
     ensures { λ r. ⌜ Wrote (now (out .entry)) (now (out .exit)) at (letters rights) r ⌝ }
 {
-    let made = letter_table();
-    put_letters_from(out, at, &made, rights)
+    let table = letter_table();
+    put_letters_from(out, at, &table, rights)
 }

@@ -12,10 +12,10 @@ use Rattle.listing.proofs.put_rows_v.Tie as tie
 
 -- the V rows of the first i bytes are written, at most 16 bytes each
 abbrev Inv-loop : tie.InvT-loop
-Inv-loop out₀ at report made next₀ i₀ out next i = (i ≤ 1024) × (next ≤ at + 16 * i) × Wrote out₀ out at (rowsTo report i) next
+Inv-loop out₀ at report table next₀ i₀ out next i = (i ≤ 1024) × (next ≤ at + 16 * i) × Wrote out₀ out at (rowsTo report i) next
 
 abbrev μ-loop : tie.MeasureT-loop
-μ-loop out₀ at report made next₀ i₀ out next i = 1024 - i
+μ-loop out₀ at report table next₀ i₀ out next i = 1024 - i
 
 letter-table-requires : tie.Need-letter-table-requires Inv-loop μ-loop
 letter-table-requires c κs = search needs

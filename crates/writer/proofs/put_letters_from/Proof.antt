@@ -19,13 +19,13 @@ use Rattle.writer.proofs.put_letters_from.Tie as tie
 
 -- the first i letters are written
 abbrev Inv-loop : tie.InvT-loop
-Inv-loop out₀ at lent rights set i₀ out i = (i ≤ length (letters rights)) × Wrote out₀ out at (take i (letters rights)) (at + i)
+Inv-loop out₀ at table rights set i₀ out i = (i ≤ length (letters rights)) × Wrote out₀ out at (take i (letters rights)) (at + i)
 
 abbrev μ-loop : tie.MeasureT-loop
-μ-loop out₀ at lent rights set i₀ out i = rightCount - i
+μ-loop out₀ at table rights set i₀ out i = rightCount - i
 
 -- what is read at place i of the table's entry: a letter or a dot
-read : (c : tie.Start Inv-loop μ-loop) (i : ℕ) → getD (getD (now (c .args .lent)) (c .args .rights % setCount) []) i 0 ≡ getD (padded (letters (c .args .rights))) i 0
+read : (c : tie.Start Inv-loop μ-loop) (i : ℕ) → getD (getD (now (c .args .table)) (c .args .rights % setCount) []) i 0 ≡ getD (padded (letters (c .args .rights))) i 0
 read c i =
     let set = c .args .rights % setCount in
     ap (λ (t : List (List ℕ)). getD (getD t set []) i 0) (c .pre .0)
