@@ -113,7 +113,7 @@ impl Watcher {
             Some(Broken::Tuple(_)) => self.note("broken: T"),
             Some(Broken::Line(q)) => self.line("broken", &net.lines[q], several(q)),
             None => {
-                self.report(&report(&net, &estimate, &places));
+                self.rights(&report(&net, &estimate, &places));
                 for q in (0..net.lines.len()).filter(|&q| several(q)) {
                     self.line("accepted", &net.lines[q], true);
                 }
@@ -123,7 +123,7 @@ impl Watcher {
     }
 
     /// Whether there are V rows, and the rights in each.
-    fn report(&mut self, report: &Report) {
+    fn rights(&mut self, report: &Report) {
         let empty = report.iter().all(|&rights| rights == 0);
         let verdict = if empty { "report empty" } else { "report not empty" };
         self.note(format!("accepted: {verdict}"));

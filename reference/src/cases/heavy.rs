@@ -363,7 +363,7 @@ impl Heavy {
 
 #[cfg(test)]
 mod tests {
-    use super::super::letters::{by_number, tests::printed};
+    use super::super::letters::{by_number, printed};
     use super::super::shares::is_half;
     use super::*;
     use crate::engine::State;

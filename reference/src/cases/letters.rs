@@ -6,8 +6,8 @@ use super::nets::close;
 use super::text::{estimate_rows, net_rows};
 use crate::rows::*;
 
-/// The letters of every set, by its number: with each letter, all sets so far
-/// come once more.
+/// The letters of every set, by its number. Each letter doubles the list: all
+/// sets so far, then the same with the letter added.
 pub fn by_number() -> Vec<String> {
     let mut sets = vec![String::new()];
     for letter in LETTERS.map(char::from) {
@@ -30,8 +30,8 @@ fn bare(sites: u8) -> (Net, Estimate) {
     (Net { sites, ..Net::empty() }, Estimate::empty())
 }
 
-/// E rows alone; as many sites as sets, each the subject of one and the
-/// object of one.
+/// E rows alone; as many sites as sets that are printed, each the subject of
+/// one and the object of one.
 fn by_estimate() -> (Net, Estimate) {
     let (net, mut estimate) = bare(ALL_RIGHTS);
     for set in 1..=ALL_RIGHTS {
@@ -93,17 +93,17 @@ fn using(right: u8, next: u8) -> Line {
     }
 }
 
+/// The letters in the V rows of an input's listing.
 #[cfg(test)]
-pub mod tests {
-    use super::*;
-    use crate::listing;
+pub fn printed(input: &[u8]) -> Vec<String> {
+    let listing = String::from_utf8(crate::listing::list(input)).unwrap();
+    let rows = listing.lines().filter(|row| row.starts_with("V,"));
+    rows.map(|row| row.rsplit(',').next().unwrap().to_string()).collect()
+}
 
-    /// The letters in the V rows of an input's listing.
-    pub fn printed(input: &[u8]) -> Vec<String> {
-        let listing = String::from_utf8(listing::list(input)).unwrap();
-        let rows = listing.lines().filter(|row| row.starts_with("V,"));
-        rows.map(|row| row.rsplit(',').next().unwrap().to_string()).collect()
-    }
+#[cfg(test)]
+mod tests {
+    use super::*;
 
     #[test]
     fn every_set_is_printed_once() {

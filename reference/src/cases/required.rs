@@ -61,7 +61,7 @@ pub fn required(kind: Kind) -> Vec<Wanted> {
 /// Every set of rights but the empty one, which has no V row.
 fn printed() -> impl Iterator<Item = Wanted> {
     let sets = letters::by_number().into_iter().skip(1);
-    sets.map(|letters| some(format!("rights printed: {letters}")))
+    sets.map(|letters| often(format!("rights printed: {letters}")))
 }
 
 /// Texts refused: by number, and by the group of the row named.

@@ -129,6 +129,9 @@ fn plain<'a>(
     ours: impl Fn(usize) -> u32 + 'a,
     theirs: impl Fn(usize) -> u32 + 'a,
 ) -> Job<'a> {
+    for (at, heavy) in turns.iter().enumerate() {
+        assert_eq!(ours(at), theirs(at), "{call} on {}: the answers differ", heavy.name);
+    }
     let last = |times: usize, once: &dyn Fn(usize) -> u32| {
         (0..times).fold(0, |_, time| once(time % turns.len()))
     };
@@ -196,9 +199,9 @@ fn door_job(heavy: &Heavy, at: [u8; 3]) -> Job<'_> {
 }
 
 fn jobs<'a>(inputs: &'a Inputs) -> Vec<Job<'a>> {
-    let Inputs { march, large, halves, checks, sets, cycles, refusals, mixed, closed, arrived } =
-        inputs;
-    let texts = || checks.iter().map(from_ref).chain([&sets[..]]);
+    let Inputs { march, large, halves, checks, mixed_sets, .. } = inputs;
+    let Inputs { cycles, refusals, mixed, closed, arrived, .. } = inputs;
+    let texts = || checks.iter().map(from_ref).chain([&mixed_sets[..]]);
     let mut jobs: Vec<Job> = texts().map(check_job).collect();
     jobs.extend(texts().map(read_job));
     jobs.extend(texts().chain([from_ref(halves)]).map(list_job));
@@ -226,7 +229,7 @@ struct Inputs {
     halves: Heavy,
     checks: Vec<Heavy>,
     /// Timed in turn.
-    sets: Vec<Heavy>,
+    mixed_sets: Vec<Heavy>,
     cycles: Vec<Heavy>,
     refusals: Vec<Heavy>,
     mixed: Heavy,
@@ -240,7 +243,7 @@ fn main() {
         large: heavy::large(),
         halves: heavy::halves(),
         checks: heavy::checks(),
-        sets: heavy::mixed_sets(),
+        mixed_sets: heavy::mixed_sets(),
         cycles: heavy::cycles(),
         refusals: heavy::refusals(),
         mixed: heavy::mixed(),
