@@ -43,6 +43,11 @@ unfolding numeral
 numeral-last zero h = absurd (omega arith)
 numeral-last (suc m) h = many m (suc m) h ∙ ap (λ (l : List ℕ). l ⧺ ((48 + suc m % 10) ∷ [])) (fuel m (suc m / 10) (suc m / 10) (omega arith) (omega arith))
 
+-- a number of two digits
+pub numeral-two : (n : ℕ) → 10 ≤ n → n < 100 → numeral n ≡ (48 + n / 10) ∷ (48 + n % 10) ∷ []
+unfolding _⧺_
+numeral-two n h l = numeral-last n h ∙ ap (λ (d : List ℕ). d ⧺ ((48 + n % 10) ∷ [])) (numeral-digit (n / 10) (omega arith))
+
 pub length-last : (n : ℕ) → 10 ≤ n → length (numeral n) ≡ length (numeral (n / 10)) + 1
 length-last n h = ap length (numeral-last n h) ∙ length-cat (numeral (n / 10)) ((48 + n % 10) ∷ [])
 

@@ -40,13 +40,25 @@ fn digit(n: u32) -> u8
     b'0' + n as u8
 }
 
-// A number in decimal: its tenth, and its last digit behind.
-pub fn put_number(out: &mut [u8], at: usize, n: u32) -> usize
-    requires { ⌜ at + length (numeral n) ≤ length (now out) ⌝ }
+// A number of one digit or two.
+fn put_short(out: &mut [u8], at: usize, n: u32) -> usize
+    requires { ⌜ (n < 100) × (at + length (numeral n) ≤ length (now out)) ⌝ }
     ensures { λ r. ⌜ Wrote (now (out .entry)) (now (out .exit)) at (numeral n) r ⌝ }
 {
     if n < 10 {
         return put_byte(out, at, digit(n));
+    }
+    let next = put_byte(out, at, digit(n / 10));
+    put_byte(out, next, digit(n % 10))
+}
+
+// A number in decimal: its tenth, and its last digit behind. One or two digits, as a site has, are written without a call of itself.
+pub fn put_number(out: &mut [u8], at: usize, n: u32) -> usize
+    requires { ⌜ at + length (numeral n) ≤ length (now out) ⌝ }
+    ensures { λ r. ⌜ Wrote (now (out .entry)) (now (out .exit)) at (numeral n) r ⌝ }
+{
+    if n < 100 {
+        return put_short(out, at, n);
     }
     let next = put_number(out, at, n / 10);
     put_byte(out, next, digit(n % 10))
