@@ -1,4 +1,4 @@
--- Laws of numerals: the last digit behind the others, and how long one is; how long the name of a site is.
+-- Laws of numerals: the last digit behind the others, two digits, and how long one is; how long the name of a site is.
 -- Assumes nothing.
 use mathlib.Core.Path.{_≡_, sym, ap, _∙_}
 use mathlib.Core.List.{List, [], _∷_}
@@ -43,7 +43,7 @@ unfolding numeral
 numeral-last zero h = absurd (omega arith)
 numeral-last (suc m) h = many m (suc m) h ∙ ap (λ (l : List ℕ). l ⧺ ((48 + suc m % 10) ∷ [])) (fuel m (suc m / 10) (suc m / 10) (omega arith) (omega arith))
 
--- a number of two digits
+-- a number from ten to 99 is its two digits
 pub numeral-two : (n : ℕ) → 10 ≤ n → n < 100 → numeral n ≡ (48 + n / 10) ∷ (48 + n % 10) ∷ []
 unfolding _⧺_
 numeral-two n h l = numeral-last n h ∙ ap (λ (d : List ℕ). d ⧺ ((48 + n % 10) ∷ [])) (numeral-digit (n / 10) (omega arith))

@@ -52,7 +52,7 @@ fn put_short(out: &mut [u8], at: usize, n: u32) -> usize
     put_byte(out, next, digit(n % 10))
 }
 
-// A number in decimal: its tenth, and its last digit behind. One or two digits, as a site has, are written without a call of itself.
+// A number in decimal: its tenth, and its last digit behind. One or two digits, as a site has, are written without calling itself.
 pub fn put_number(out: &mut [u8], at: usize, n: u32) -> usize
     requires { ⌜ at + length (numeral n) ≤ length (now out) ⌝ }
     ensures { λ r. ⌜ Wrote (now (out .entry)) (now (out .exit)) at (numeral n) r ⌝ }
