@@ -295,7 +295,14 @@ turn-none n x i set = sym (untrue (λ q. differ (mem x set) (and-r _ _ q)))
     differ true t = false≢true (and-r true false t)
     differ false t = false≢true (and-l false true t)
 
+-- every site is in the set of all
+pub every-site : (x : ℕ) → x < 32 → mem x 4294967295 ≡ true
+every-site x h = mem-other-site 32 x 0 4294967295 refl h ∙ ap not (has-none x)
+
 -- a set of rows and a set of sites
+pub kept-all : (a : Bool) (x set : ℕ) → x < 32 → set ≡ 4294967295 → a ≡ (a & mem x set)
+kept-all a x set h e = sym (and-true a) ∙ ap (λ (b : Bool). a & b) (sym (ap (mem x) e ∙ every-site x h))
+
 pub kept-rest : (a : Bool) (i n x set : ℕ) → x < 32 → set < 4294967296 → (a ≡ true → i < n) → (a & not (ltb i n & mem x (4294967295 - set))) ≡ (a & mem x set)
 unfolding _&_
 kept-rest true i n x set h l f =

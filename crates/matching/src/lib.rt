@@ -181,11 +181,15 @@ fn rows_in(index: &[u64; 768], c: usize, set: u32) -> RowSet
     r
 }
 
-// Of some of the rows those whose site in column c is in the set. Where it has most sites, those with another site are left out.
+// Of some of the rows those whose site in column c is in the set. A set of all sites leaves them as they are, without a look at the
+// index; where it has most sites, those with another site are left out.
 fn kept(index: &[u64; 768], had: RowSet, c: usize, set: u32) -> RowSet
     requires { ⌜ (c < 6) × (length (now index) ≡ 768) ⌝ }
     ensures { λ r. ⌜ ((n : ℕ) (bs : List ℕ) → Indexed n bs (now (index .entry)) → (i : ℕ) → i < 256 → inColumn bs c i < 32 → (inRows (words had) i ≡ true → i < n) → inRows (words r) i ≡ (inRows (words had) i & mem (inColumn bs c i) set)) ⌝ }
 {
+    if set == ANY {
+        return had;
+    }
     if u32::count_ones(set) <= HALF {
         return in_both(had, rows_in(index, c, set));
     }
