@@ -13,6 +13,7 @@ use Rattle.sets.proofs.Lists.{and-l, and-r, count-cat, count-one}
 use Rattle.klaim.specs.Process.{In, Read, template, clash, usedIn, boundIn}
 use Rattle.klaim.specs.declared.Loc.{Loc}
 use Rattle.klaim.specs.declared.Slot.{Slot}
+use Rattle.klaim.specs.declared.Slot.the-variants.{Value, Wildcard}
 use Rattle.text.specs.declared.Name.{Name}
 use Rattle.text.specs.Fields.{upTo, loc, slot}
 use Rattle.lines.specs.declared.Four.{Four}
@@ -39,26 +40,33 @@ first-sum p f = go (f .count) refl
         (omega arith)
 
 -- a variable in one name
-count-name : (u : ℕ) (m : Name) → upTo 4 m ≡ true → count u (usedIn (slot m)) + count u (boundIn (slot m)) ≡ hits u m
+count-name : (u : ℕ) (m : Name) → upTo 5 m ≡ true → count u (usedIn (slot m)) + count u (boundIn (slot m)) ≡ hits u m
 unfolding upTo slot loc usedIn boundIn hits count keep _&_
-count-name u m p = go (m .kind) refl (leb-true 1 (m .kind) (and-l (leb 1 (m .kind)) (leb (m .kind) 4) p)) (leb-true (m .kind) 4 (and-r (leb 1 (m .kind)) (leb (m .kind) 4) p))
+count-name u m p = go (m .kind) refl (leb-true 1 (m .kind) (and-l (leb 1 (m .kind)) (leb (m .kind) 5) p)) (leb-true (m .kind) 5 (and-r (leb 1 (m .kind)) (leb (m .kind) 5) p))
   where
-    go : (k : ℕ) → m .kind ≡ k → 1 ≤ m .kind → m .kind ≤ 4 → count u (usedIn (slot m)) + count u (boundIn (slot m)) ≡ hits u m
+    go : (k : ℕ) → m .kind ≡ k → 1 ≤ m .kind → m .kind ≤ 5 → count u (usedIn (slot m)) + count u (boundIn (slot m)) ≡ hits u m
     go zero e l h = absurd (omega arith)
     go (suc zero) e l h = rw e
     go (suc (suc zero)) e l h = rw e
     go (suc (suc (suc zero))) e l h = rw (e, ← count-one u (m .number)) (omega arith)
     go (suc (suc (suc (suc zero)))) e l h = rw (e, ← count-one u (m .number)) (omega arith)
-    go (suc (suc (suc (suc (suc k))))) e l h = absurd (omega arith)
+    go (suc (suc (suc (suc (suc zero))))) e l h = rw e
+    go (suc (suc (suc (suc (suc (suc k)))))) e l h = absurd (omega arith)
 
 -- a variable in the fields
-count-names : (u : ℕ) (ms : List Name) → all (upTo 4) ms ≡ true → count u (concat usedIn (map slot ms)) + count u (concat boundIn (map slot ms)) ≡ sum (hits u) ms
+count-names : (u : ℕ) (ms : List Name) → all (upTo 5) ms ≡ true → count u (concat usedIn (map slot ms)) + count u (concat boundIn (map slot ms)) ≡ sum (hits u) ms
 unfolding all concat sum count keep
 count-names u [] p = refl
 count-names u (m ∷ ms) p =
     let a = count-name u m (and-l _ _ p) in
     let b = count-names u ms (and-r _ _ p) in
     rw (count-cat u (usedIn (slot m)) (concat usedIn (map slot ms)), count-cat u (boundIn (slot m)) (concat boundIn (map slot ms))) (omega arith)
+
+-- a field that is no binder
+no-binder : (b : Bool) (x : Loc) → boundIn (cond b Wildcard (Value x)) ≡ []
+unfolding boundIn
+no-binder true x = refl
+no-binder false x = refl
 
 -- a test of the variables that are bound
 bound-slot : (m : Name) → boundIn (slot m) ≡ only (eqb (m .kind) 4) (m .number)
@@ -67,7 +75,7 @@ bound-slot m = go (eqb (m .kind) 4) refl
   where
     go : (b : Bool) → eqb (m .kind) 4 ≡ b → boundIn (slot m) ≡ only (eqb (m .kind) 4) (m .number)
     go true e = rw e
-    go false e = rw e
+    go false e = rw e (no-binder (eqb (m .kind) 5) (loc m))
 
 module _ (q r : ℕ → Bool) (opposed : (u : ℕ) → q u ≡ not (r u)) where
   one-bound : (b : Bool) (n : ℕ) (xs : List ℕ) (a : Bool) → any q xs ≡ not a → any q (only b n ⧺ xs) ≡ not (imp b (r n) & a)
@@ -91,7 +99,7 @@ more-not n = go (leb n 1) refl
     go true e = rw (e, le-ltb 1 n (leb-true n 1 e))
     go false e = rw (e, lt-ltb 1 n (leb-false n 1 e))
 
-clash-names : (f : Four) → all (upTo 4) (names f) ≡ true → clash (map slot (names f)) ≡ not (all (single f) (names f))
+clash-names : (f : Four) → all (upTo 5) (names f) ≡ true → clash (map slot (names f)) ≡ not (all (single f) (names f))
 unfolding clash single
 clash-names f p =
     any-bound

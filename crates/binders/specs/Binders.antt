@@ -14,7 +14,7 @@ firstSum n a b c d = cond (eqb n 0) 0 (cond (eqb n 1) a (cond (eqb n 2) (a + b) 
 
 -- how often a name is u or `!u`
 unfoldable pub hits : ℕ → Name → ℕ
-hits u m = cond (leb 3 (m .kind) & eqb u (m .number)) 1 0
+hits u m = cond (leb 3 (m .kind) & leb (m .kind) 4 & eqb u (m .number)) 1 0
 
 -- a name that is no binder, or whose variable the fields name once
 unfoldable pub single : Four → Name → Bool

@@ -24,6 +24,9 @@ fn hit(name: Name, u: u16) -> u8
     if kind < VARIABLE {
         return 0;
     }
+    if BINDER < kind {
+        return 0;
+    }
     if u == number {
         return 1;
     }

@@ -1,12 +1,13 @@
 -- Laws of names and numbers as bytes.
 -- Assumes nothing.
 use mathlib.Core.Path.{_≡_, refl}
-use mathlib.Core.Bool.{Bool, true}
+use mathlib.Core.Bool.{Bool, true, false}
 use mathlib.Core.List.{List, [], _∷_, map}
 use Prim.Native.Nat.{ℕ, zero, suc, _+_, _/_, _%_, _≤_, _<_}
 use native.Mathlib.Omega.{arith}
 use lib.ListN.{take}
 use lib.Seq.{take-nil}
+use lib.Dec.{eqb}
 use borrow.Author.Tests.{leb-true, ltb-true, le-ltb, lt-leb, ne-eqb}
 use Rattle.sets.specs.Lists.{either, all}
 use Rattle.sets.proofs.Lists.{and-l, and-r}
@@ -40,29 +41,33 @@ name-number : (m : Name) → lowName 4 32 m ≡ true → (m .kind ≡ 0 → ⊥)
 unfolding lowName either
 name-number m p a b h = ltb-true (m .number) 32 (rw (ne-eqb (m .kind) 0 a, ne-eqb (m .kind) 2 b, le-ltb 4 (m .kind) h) at p)
 
-pub slot-code : (m : Name) → upTo 4 m ≡ true → lowName 4 32 m ≡ true → slotOf (codeOf m) ≡ slot m
+pub slot-code : (m : Name) → upTo 5 m ≡ true → lowName 4 32 m ≡ true → slotOf (codeOf m) ≡ slot m
 unfolding upTo slotOf locOf codeOf slot loc
-slot-code m p q = go (m .kind) refl (leb-true 1 (m .kind) (and-l _ _ p)) (leb-true (m .kind) 4 (and-r _ _ p))
+slot-code m p q = go (m .kind) refl (leb-true 1 (m .kind) (and-l _ _ p)) (leb-true (m .kind) 5 (and-r _ _ p))
   where
-    go : (k : ℕ) → m .kind ≡ k → 1 ≤ m .kind → m .kind ≤ 4 → slotOf (codeOf m) ≡ slot m
+    go : (k : ℕ) → m .kind ≡ k → 1 ≤ m .kind → m .kind ≤ 5 → slotOf (codeOf m) ≡ slot m
     go zero e l h = absurd (omega arith)
     go (suc zero) e l h =
-        let g = name-number m q (λ z. omega arith) (λ z. omega arith) h in
+        let g = name-number m q (λ z. omega arith) (λ z. omega arith) (omega arith) in
+        let w : eqb (m .number % 32) 128 ≡ false = ne-eqb (m .number % 32) 128 (λ z. omega arith) in
         let s : m .number % 32 / 32 % 4 ≡ 0 = omega arith in
         let n : m .number % 32 % 32 ≡ m .number = omega arith in
-        rw (e, s, n)
+        rw (e, w, s, n)
     go (suc (suc zero)) e l h = rw e
     go (suc (suc (suc zero))) e l h =
-        let g = name-number m q (λ z. omega arith) (λ z. omega arith) h in
+        let g = name-number m q (λ z. omega arith) (λ z. omega arith) (omega arith) in
+        let w : eqb (64 + m .number % 32) 128 ≡ false = ne-eqb (64 + m .number % 32) 128 (λ z. omega arith) in
         let s : (64 + m .number % 32) / 32 % 4 ≡ 2 = omega arith in
         let n : (64 + m .number % 32) % 32 ≡ m .number = omega arith in
-        rw (e, s, n)
+        rw (e, w, s, n)
     go (suc (suc (suc (suc zero)))) e l h =
-        let g = name-number m q (λ z. omega arith) (λ z. omega arith) h in
+        let g = name-number m q (λ z. omega arith) (λ z. omega arith) (omega arith) in
+        let w : eqb (96 + m .number % 32) 128 ≡ false = ne-eqb (96 + m .number % 32) 128 (λ z. omega arith) in
         let s : (96 + m .number % 32) / 32 % 4 ≡ 3 = omega arith in
         let n : (96 + m .number % 32) % 32 ≡ m .number = omega arith in
-        rw (e, s, n)
-    go (suc (suc (suc (suc (suc k))))) e l h = absurd (omega arith)
+        rw (e, w, s, n)
+    go (suc (suc (suc (suc (suc zero))))) e l h = rw e
+    go (suc (suc (suc (suc (suc (suc k)))))) e l h = absurd (omega arith)
 
 pub loc-code : (m : Name) → upTo 3 m ≡ true → lowName 4 32 m ≡ true → locOf (codeOf m) ≡ loc m
 unfolding upTo locOf codeOf loc

@@ -59,9 +59,9 @@ module _ (d : LineData) (G : lineGood d ≡ true) (N : lowNumbers d ≡ true) (M
   unfolding lowNames
   locs-low S = map-same locOf loc codeOf (upTo 3) low loc-code (names (d .fields)) (fields-fit 3 3 (d .fields) (S .fields-fits) (omega arith)) (and-r _ _ M)
 
-  slots-low : {a b c : Bool} {t : ℕ} → Shape a b c t 4 d → map slotOf (map codeOf (names (d .fields))) ≡ map slot (names (d .fields))
+  slots-low : {a b c : Bool} {t : ℕ} → Shape a b c t 5 d → map slotOf (map codeOf (names (d .fields))) ≡ map slot (names (d .fields))
   unfolding lowNames
-  slots-low S = map-same slotOf slot codeOf (upTo 4) low slot-code (names (d .fields)) (fields-fit 4 4 (d .fields) (S .fields-fits) (omega arith)) (and-r _ _ M)
+  slots-low S = map-same slotOf slot codeOf (upTo 5) low slot-code (names (d .fields)) (fields-fit 5 5 (d .fields) (S .fields-fits) (omega arith)) (and-r _ _ M)
 
   abbrev Kind : ℕ → Type 0
   Kind k = d .kind ≡ k → lineBy (d .kind - 1) (byteOf (d .next)) (byteOf (d .other)) (byteOf (d .sandbox) % 32) (locOf (codeOf (d .target))) (map codeOf (names (d .fields))) ≡ Form.lineOf d
@@ -84,11 +84,11 @@ module _ (d : LineData) (G : lineGood d ≡ true) (N : lowNumbers d ≡ true) (M
 
   coded-in : Kind 5
   unfolding lineBy Form.lineOf getKind lineGood lineShape _&_
-  coded-in e = let S : Shape true false false 3 4 d = shape (rw e at G) in rw (e, next-low S, target-low S, slots-low S)
+  coded-in e = let S : Shape true false false 3 5 d = shape (rw e at G) in rw (e, next-low S, target-low S, slots-low S)
 
   coded-read : Kind 6
   unfolding lineBy Form.lineOf getKind lineGood lineShape _&_
-  coded-read e = let S : Shape true false false 3 4 d = shape (rw e at G) in rw (e, next-low S, target-low S, slots-low S)
+  coded-read e = let S : Shape true false false 3 5 d = shape (rw e at G) in rw (e, next-low S, target-low S, slots-low S)
 
   coded-eval : Kind 7
   unfolding lineBy Form.lineOf lineGood lineShape _&_

@@ -12,13 +12,14 @@ use Rattle.lines.specs.declared.LineData.{LineData}
 unfoldable pub byteOf : ℕ → ℕ
 byteOf n = n % 256
 
--- a name as a byte: site s is s, `self` 32, variable u 64 + u, `!u` 96 + u
+-- a name as a byte: site s is s, `self` 32, variable u 64 + u, `!u` 96 + u, `_` 128
 unfoldable pub codeOf : Name → ℕ
 codeOf m =
     cond (eqb (m .kind) 1) (m .number % 32)
     (cond (eqb (m .kind) 3) (64 + m .number % 32)
     (cond (eqb (m .kind) 4) (96 + m .number % 32)
-    32))
+    (cond (eqb (m .kind) 5) 128
+    32)))
 
 -- how many fields, at most 4
 unfoldable pub countOf : ℕ → ℕ

@@ -10,10 +10,12 @@ ghost use Rattle.entries.specs.Entries.{byteOf, codeOf, countOf, lineCod
 use forms::RowData;
 use lines::LineData;
 use tables::FIELDS;
+use tables::WILDCARD_CODE;
 use text::BINDER;
 use text::Name;
 use text::SITE;
 use text::VARIABLE;
+use text::WILDCARD;
 
 // Numbers that a byte can hold, and numbers of names.
 const BYTES: u16 = 256;
@@ -47,6 +49,9 @@ fn code(name: Name) -> u8
     }
     if kind == BINDER {
         return BINDER_CODE + number;
+    }
+    if kind == WILDCARD {
+        return WILDCARD_CODE;
     }
     SELF_CODE
 }

@@ -40,33 +40,35 @@ low-listed limit n = go (ltb n noNumber) refl
 abbrev under : ℕ → ℕ → Bool
 under n k = ltb k n
 
-low-site : (n : ℕ) (m : Name) → upTo 4 m ≡ true → all (under n) (sitesIn (slot m)) ≡ lowName 1 n m
+low-site : (n : ℕ) (m : Name) → upTo 5 m ≡ true → all (under n) (sitesIn (slot m)) ≡ lowName 1 n m
 unfolding lowName upTo slot loc sitesIn all either
-low-site n m p = go (m .kind) refl (leb-true 1 (m .kind) (and-l _ _ p)) (leb-true (m .kind) 4 (and-r _ _ p))
+low-site n m p = go (m .kind) refl (leb-true 1 (m .kind) (and-l _ _ p)) (leb-true (m .kind) 5 (and-r _ _ p))
   where
-    go : (k : ℕ) → m .kind ≡ k → 1 ≤ m .kind → m .kind ≤ 4 → all (under n) (sitesIn (slot m)) ≡ lowName 1 n m
+    go : (k : ℕ) → m .kind ≡ k → 1 ≤ m .kind → m .kind ≤ 5 → all (under n) (sitesIn (slot m)) ≡ lowName 1 n m
     go zero e l h = absurd (omega arith)
     go (suc zero) e l h = rw e (and-true (ltb (m .number) n))
     go (suc (suc zero)) e l h = rw e
     go (suc (suc (suc zero))) e l h = rw e
     go (suc (suc (suc (suc zero)))) e l h = rw e
-    go (suc (suc (suc (suc (suc k))))) e l h = absurd (omega arith)
+    go (suc (suc (suc (suc (suc zero))))) e l h = rw e
+    go (suc (suc (suc (suc (suc (suc k)))))) e l h = absurd (omega arith)
 
 -- the variables and the sites of a field
 abbrev lowSlot : ℕ → Slot → Bool
 lowSlot n s = (all (under n) (usedIn s) & all (under n) (boundIn s)) & all (under n) (sitesIn s)
 
-low-slot : (n : ℕ) (m : Name) → upTo 4 m ≡ true → lowSlot n (slot m) ≡ lowName 4 n m
+low-slot : (n : ℕ) (m : Name) → upTo 5 m ≡ true → lowSlot n (slot m) ≡ lowName 4 n m
 unfolding lowName upTo slot loc sitesIn usedIn boundIn all either _&_
-low-slot n m p = go (m .kind) refl (leb-true 1 (m .kind) (and-l (leb 1 (m .kind)) (leb (m .kind) 4) p)) (leb-true (m .kind) 4 (and-r (leb 1 (m .kind)) (leb (m .kind) 4) p))
+low-slot n m p = go (m .kind) refl (leb-true 1 (m .kind) (and-l (leb 1 (m .kind)) (leb (m .kind) 5) p)) (leb-true (m .kind) 5 (and-r (leb 1 (m .kind)) (leb (m .kind) 5) p))
   where
-    go : (k : ℕ) → m .kind ≡ k → 1 ≤ m .kind → m .kind ≤ 4 → lowSlot n (slot m) ≡ lowName 4 n m
+    go : (k : ℕ) → m .kind ≡ k → 1 ≤ m .kind → m .kind ≤ 5 → lowSlot n (slot m) ≡ lowName 4 n m
     go zero e l h = absurd (omega arith)
     go (suc zero) e l h = rw e (and-true (ltb (m .number) n))
     go (suc (suc zero)) e l h = rw e
     go (suc (suc (suc zero))) e l h = rw (e, and-true, and-true, and-true)
     go (suc (suc (suc (suc zero)))) e l h = rw (e, and-true, and-true)
-    go (suc (suc (suc (suc (suc k))))) e l h = absurd (omega arith)
+    go (suc (suc (suc (suc (suc zero))))) e l h = rw e
+    go (suc (suc (suc (suc (suc (suc k)))))) e l h = absurd (omega arith)
 
 no-name : (most n : ℕ) (m : Name) → m .kind ≡ 0 → lowName most n m ≡ true
 unfolding lowName either

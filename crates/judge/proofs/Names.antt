@@ -66,7 +66,7 @@ target-is zero m p h = let e : m .kind ≡ 0 = eqb-eq p in rw e
 target-is (suc t) m p h =
     let l : 1 ≤ m .kind = leb-true 1 (m .kind) (and-l _ _ p) in
     let g : m .kind ≤ suc t = leb-true (m .kind) (suc t) (and-r _ _ p) in
-    rw (lt-ltb 0 (m .kind) (omega arith), ne-eqb (m .kind) 4 (λ e. omega arith), lt-ltb 0 (suc t) (omega arith))
+    rw (lt-ltb 0 (m .kind) (omega arith), ne-eqb (m .kind) 4 (λ e. omega arith), ne-eqb (m .kind) 5 (λ e. omega arith), lt-ltb 0 (suc t) (omega arith))
 
 pub fields-fit : (k j : ℕ) (f : Four) → fieldsFit k f ≡ true → k ≤ j → all (upTo j) (names f) ≡ true
 unfolding fieldsFit fitAll all
@@ -80,7 +80,7 @@ fields-are (suc k) f p = rw (lt-ltb 0 (suc k) (omega arith))
 -- the fields of `out`
 value-slot : (m : Name) → upTo 3 m ≡ true → Value (loc m) ≡ slot m
 unfolding upTo slot
-value-slot m p = let h : m .kind ≤ 3 = leb-true (m .kind) 3 (and-r _ _ p) in rw (ne-eqb (m .kind) 4 (λ e. omega arith))
+value-slot m p = let h : m .kind ≤ 3 = leb-true (m .kind) 3 (and-r _ _ p) in rw (ne-eqb (m .kind) 4 (λ e. omega arith), ne-eqb (m .kind) 5 (λ e. omega arith))
 
 values-are : (ms : List Name) → all (upTo 3) ms ≡ true → map Value (map loc ms) ≡ map slot ms
 unfolding all
@@ -92,7 +92,7 @@ pub record Parts (d : LineData) : Type 0 where
   pub boxes-are : boxesOf (lineOf d) ≡ listed (d .sandbox)
   pub slots-are : slotsOf (lineOf d) ≡ only (ltb 0 (d .target .kind)) (slot (d .target)) ⧺ map slot (names (d .fields))
   pub target-low : d .target .kind ≤ 3
-  pub fields-low : all (upTo 4) (names (d .fields)) ≡ true
+  pub fields-low : all (upTo 5) (names (d .fields)) ≡ true
 
 -- the parts of a line of a shape
 pub record Shape (a b c : Bool) (t f : ℕ) (d : LineData) : Type 0 where
@@ -116,13 +116,13 @@ shape h =
       fields-fits = and-r _ _ g;
     }
 
-parts-of : {a b c : Bool} {t f : ℕ} {d : LineData} → Shape a b c t f d → t ≤ 3 → f ≤ 4 → children (lineOf d) ≡ only a (d .next) ⧺ only b (d .other) → boxesOf (lineOf d) ≡ only c (d .sandbox) → slotsOf (lineOf d) ≡ only (ltb 0 t) (Value (loc (d .target))) ⧺ map slot (cond (ltb 0 f) (names (d .fields)) []) → Parts d
+parts-of : {a b c : Bool} {t f : ℕ} {d : LineData} → Shape a b c t f d → t ≤ 3 → f ≤ 5 → children (lineOf d) ≡ only a (d .next) ⧺ only b (d .other) → boxesOf (lineOf d) ≡ only c (d .sandbox) → slotsOf (lineOf d) ≡ only (ltb 0 t) (Value (loc (d .target))) ⧺ map slot (cond (ltb 0 f) (names (d .fields)) []) → Parts d
 parts-of {a} {b} {c} {t} {f} {d} S low few p q s = record {
   lines-are = rw (listed-is a (d .next) (S .next-is), listed-is b (d .other) (S .other-is)) p;
   boxes-are = rw (listed-is c (d .sandbox) (S .sandbox-is)) q;
   slots-are = s ∙ rw (target-is t (d .target) (S .target-fits) low, ← fields-are f (d .fields) (S .fields-fits));
   target-low = omega (arith, name-low t (d .target) (S .target-fits));
-  fields-low = fields-fit f 4 (d .fields) (S .fields-fits) few;
+  fields-low = fields-fit f 5 (d .fields) (S .fields-fits) few;
 }
 
 -- by the kind of the line
@@ -147,11 +147,11 @@ module _ (d : LineData) (G : lineGood d ≡ true) where
 
   part-in : d .kind ≡ 5 → Parts d
   unfolding lineGood lineShape lineOf getKind children boxesOf slotsOf only _⧺_ _&_
-  part-in e = let S : Shape true false false 3 4 d = shape (rw e at G) in parts-of S (omega arith) (omega arith) (rw e) (rw e) (rw e)
+  part-in e = let S : Shape true false false 3 5 d = shape (rw e at G) in parts-of S (omega arith) (omega arith) (rw e) (rw e) (rw e)
 
   part-read : d .kind ≡ 6 → Parts d
   unfolding lineGood lineShape lineOf getKind children boxesOf slotsOf only _⧺_ _&_
-  part-read e = let S : Shape true false false 3 4 d = shape (rw e at G) in parts-of S (omega arith) (omega arith) (rw e) (rw e) (rw e)
+  part-read e = let S : Shape true false false 3 5 d = shape (rw e at G) in parts-of S (omega arith) (omega arith) (rw e) (rw e) (rw e)
 
   part-eval : d .kind ≡ 7 → Parts d
   unfolding lineGood lineShape lineOf children boxesOf slotsOf only _⧺_ _&_
@@ -179,17 +179,17 @@ module _ (d : LineData) (G : lineGood d ≡ true) where
       go (suc (suc (suc (suc (suc (suc (suc (suc (suc k))))))))) e p q = absurd (omega arith)
 
 -- a test of the names of a line, given one of each name
-module _ (f : Slot → Bool) (g : Name → Bool) (same : (m : Name) → upTo 4 m ≡ true → f (slot m) ≡ g m) (free : (m : Name) → m .kind ≡ 0 → g m ≡ true) {d : LineData} (P : Parts d) where
+module _ (f : Slot → Bool) (g : Name → Bool) (same : (m : Name) → upTo 5 m ≡ true → f (slot m) ≡ g m) (free : (m : Name) → m .kind ≡ 0 → g m ≡ true) {d : LineData} (P : Parts d) where
   target-test : imp (ltb 0 (d .target .kind)) (f (slot (d .target))) ≡ g (d .target)
   unfolding imp upTo
   target-test = go (d .target .kind) refl (P .target-low)
     where
       go : (k : ℕ) → d .target .kind ≡ k → k ≤ 3 → imp (ltb 0 (d .target .kind)) (f (slot (d .target))) ≡ g (d .target)
       go zero e h = rw (free (d .target) e, e)
-      go (suc k) e h = rw (lt-ltb 0 (d .target .kind) (omega arith)) (same (d .target) (and-i (le-leb 1 (d .target .kind) (omega arith)) (le-leb (d .target .kind) 4 (omega arith))))
+      go (suc k) e h = rw (lt-ltb 0 (d .target .kind) (omega arith)) (same (d .target) (and-i (le-leb 1 (d .target .kind) (omega arith)) (le-leb (d .target .kind) 5 (omega arith))))
 
   pub names-test : all f (slotsOf (lineOf d)) ≡ g (d .target) & all g (names (d .fields))
   names-test =
       ap (all f) (P .slots-are)
       ∙ all-cat f (only (ltb 0 (d .target .kind)) (slot (d .target))) (map slot (names (d .fields)))
-      ∙ rw (all-only f (ltb 0 (d .target .kind)) (slot (d .target)), target-test, all-map f slot (names (d .fields)), all-agree (upTo 4) (λ m. f (slot m)) g same (names (d .fields)) (P .fields-low))
+      ∙ rw (all-only f (ltb 0 (d .target .kind)) (slot (d .target)), target-test, all-map f slot (names (d .fields)), all-agree (upTo 5) (λ m. f (slot m)) g same (names (d .fields)) (P .fields-low))

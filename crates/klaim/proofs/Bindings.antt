@@ -18,7 +18,7 @@ use Rattle.klaim.specs.declared.Var.{Var}
 use Rattle.klaim.specs.declared.Loc.{Loc}
 use Rattle.klaim.specs.declared.Loc.the-variants.{At, Here, Use}
 use Rattle.klaim.specs.declared.Slot.{Slot}
-use Rattle.klaim.specs.declared.Slot.the-variants.{Value, Bind}
+use Rattle.klaim.specs.declared.Slot.the-variants.{Value, Bind, Wildcard}
 use Rattle.klaim.specs.Process.{sitesIn, usedIn, boundIn}
 use Rattle.klaim.specs.Net.{Estimate, may}
 use Rattle.klaim.specs.Analysis.{reach, matches, bound}
@@ -40,6 +40,7 @@ Each Q [] vs = Unit {0}
 Each Q (s ∷ ss) [] = Unit {0}
 Each Q (Value x ∷ ss) (v ∷ vs) = Each Q ss vs
 Each Q (Bind u ∷ ss) (v ∷ vs) = Q (u .0) v × Each Q ss vs
+Each Q (Wildcard ∷ ss) (v ∷ vs) = Each Q ss vs
 
 -- nothing is bound at first
 pub unbound-holds : (Q : ℕ → ℕ → Type 0) → Holds Q unbound
@@ -83,17 +84,11 @@ binds-tail : (n : ℕ) (s : Slot) (ss : List Slot) → BindsLow n (s ∷ ss) →
 unfolding allBelow concat boundIn all _⧺_
 binds-tail n (Value x) ss t = t
 binds-tail n (Bind u) ss t = and-r _ _ t
+binds-tail n Wildcard ss t = t
 
 binds-head : (n : ℕ) (u : Var) (ss : List Slot) → BindsLow n (Bind u ∷ ss) → u .0 < n
 unfolding allBelow concat boundIn all _⧺_
 binds-head n u ss t = ltb-lt _ _ (and-l _ _ t)
-
-pub bind-long : (ss : List Slot) (vs : List ℕ) (e : Bindings) → length (bindAll ss vs e) ≡ length e
-unfolding bindAll
-bind-long [] vs e = refl
-bind-long (s ∷ ss) [] e = refl
-bind-long (Value x ∷ ss) (v ∷ vs) e = bind-long ss vs e
-bind-long (Bind u ∷ ss) (v ∷ vs) e = bind-long ss vs (set e (u .0) (some v)) ∙ length-set e (u .0) (some v)
 
 module _ (n : ℕ) where
   pub bind-holds : (Q : ℕ → ℕ → Type 0) (ss : List Slot) (vs : List ℕ) (e : Bindings) → length e ≡ n → BindsLow n ss → Each Q ss vs → Holds Q e → Holds Q (bindAll ss vs e)
@@ -104,6 +99,7 @@ module _ (n : ℕ) where
   bind-holds Q (Bind u ∷ ss) (v ∷ vs) e l b q h =
       bind-holds Q ss vs (set e (u .0) (some v)) (length-set e (u .0) (some v) ∙ l) (binds-tail n (Bind u) ss b) (q .1)
       (set-holds Q e (u .0) v (omega (arith, binds-head n u ss b)) (q .0) h)
+  bind-holds Q (Wildcard ∷ ss) (v ∷ vs) e l b q h = bind-holds Q ss vs e l (binds-tail n Wildcard ss b) q h
 
   -- what was bound stays bound
   pub bind-kept : (ss : List Slot) (vs : List ℕ) (e : Bindings) → length e ≡ n → BindsLow n ss → (w : ℕ) → BoundTo e w → BoundTo (bindAll ss vs e) w
@@ -114,6 +110,7 @@ module _ (n : ℕ) where
   bind-kept (Bind u ∷ ss) (v ∷ vs) e l b w h =
       bind-kept ss vs (set e (u .0) (some v)) (length-set e (u .0) (some v) ∙ l) (binds-tail n (Bind u) ss b) w
       (set-kept e (u .0) v w (omega (arith, binds-head n u ss b)) h)
+  bind-kept (Wildcard ∷ ss) (v ∷ vs) e l b w h = bind-kept ss vs e l (binds-tail n Wildcard ss b) w h
 
   -- what the template binds is bound
   pub bind-new : (f : Loc → ℕ → Bool) (ss : List Slot) (vs : List ℕ) (e : Bindings) → length e ≡ n → BindsLow n ss → matches f ss vs ≡ true → (w : ℕ) → Elem w (concat boundIn ss) → BoundTo (bindAll ss vs e) w
@@ -127,6 +124,15 @@ module _ (n : ℕ) where
       (v, ap (λ (x : ℕ). getD (set e (u .0) (some v)) x none) p ∙ getD-set-same e (u .0) (some v) none low)
   bind-new f (Bind u ∷ ss) (v ∷ vs) e l b m w (later i) =
       bind-new f ss vs (set e (u .0) (some v)) (length-set e (u .0) (some v) ∙ l) (binds-tail n (Bind u) ss b) (and-r _ _ m) w i
+  bind-new f (Wildcard ∷ ss) (v ∷ vs) e l b m w i = bind-new f ss vs e l (binds-tail n Wildcard ss b) (and-r _ _ m) w i
+
+pub bind-long : (ss : List Slot) (vs : List ℕ) (e : Bindings) → length (bindAll ss vs e) ≡ length e
+unfolding bindAll
+bind-long [] vs e = refl
+bind-long (s ∷ ss) [] e = refl
+bind-long (Value x ∷ ss) (v ∷ vs) e = bind-long ss vs e
+bind-long (Bind u ∷ ss) (v ∷ vs) e = bind-long ss vs (set e (u .0) (some v)) ∙ length-set e (u .0) (some v)
+bind-long (Wildcard ∷ ss) (v ∷ vs) e = bind-long ss vs e
 
 -- each binder's value has Q, where each of the values has it
 pub each-all : (Q : ℕ → ℕ → Type 0) (f : ℕ → Bool) → ((u v : ℕ) → f v ≡ true → Q u v) → (ss : List Slot) (vs : List ℕ) → all f vs ≡ true → Each Q ss vs
@@ -135,6 +141,7 @@ each-all Q f q [] vs t = tt
 each-all Q f q (s ∷ ss) [] t = tt
 each-all Q f q (Value x ∷ ss) (v ∷ vs) t = each-all Q f q ss vs (and-r _ _ t)
 each-all Q f q (Bind u ∷ ss) (v ∷ vs) t = (q (u .0) v (and-l _ _ t), each-all Q f q ss vs (and-r _ _ t))
+each-all Q f q (Wildcard ∷ ss) (v ∷ vs) t = each-all Q f q ss vs (and-r _ _ t)
 
 -- a field whose sites are below n and whose variable is bound
 pub record LocOk (n : ℕ) (e : Bindings) (x : Loc) : Type 0 where
@@ -164,3 +171,4 @@ each-bound n E (Value x ∷ ss) (v ∷ vs) few low t = each-bound n E ss vs few 
 each-bound n E (Bind u ∷ ss) (v ∷ vs) few low t =
     let v-low : v < n = ltb-lt _ _ (and-l _ _ low) in
     (sites-in (may E (u .0)) v (omega arith) (and-l _ _ t), each-bound n E ss vs few (and-r _ _ low) (and-r _ _ t))
+each-bound n E (Wildcard ∷ ss) (v ∷ vs) few low t = each-bound n E ss vs few (and-r _ _ low) t

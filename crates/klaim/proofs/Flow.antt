@@ -15,7 +15,7 @@ use Rattle.sets.proofs.Tables.{getD-table, below-in}
 use Rattle.sets.proofs.Bits.{has-none, has-self, has-less, or-has-l, or-has-r, within-has, grant-has, joins-has, meets-has, sites-in, in-sites}
 use Rattle.klaim.specs.declared.Loc.{Loc}
 use Rattle.klaim.specs.declared.Slot.{Slot}
-use Rattle.klaim.specs.declared.Slot.the-variants.{Value, Bind}
+use Rattle.klaim.specs.declared.Slot.the-variants.{Value, Bind, Wildcard}
 use Rattle.klaim.specs.Process.{Tree, parT, repT, outT, getT, evalT, acceptT}
 use Rattle.klaim.specs.Net.{Root, Net, Estimate, home, boxAt, may, holds}
 use Rattle.klaim.specs.Analysis.{reach, placeSet, reached, slotMatch, matches, choices, firstNot, least, accepted, verdictOf, stands, bound, outRule, getRule, evalRule, broken, brokenTuple, brokenLine, process, verdict}
@@ -36,6 +36,7 @@ slot-in : (rch : Loc → ℕ) (val : Loc → ℕ) (s : Slot) → ((x : Loc) → 
 unfolding slotMatch
 slot-in rch val (Value x) ok v t = subst (λ (w : ℕ). mem w (rch x) ≡ true) (sym (eqb-eq t)) ((in-sites (rch x) _ (ok x refl)) .1)
 slot-in rch val (Bind u) ok v t = refl
+slot-in rch val Wildcard ok v t = t
 
 matches-in : (rch : Loc → ℕ) (val : Loc → ℕ) (ss : List Slot) → ((x : Loc) → Elem (Value x) ss → Elem (val x) (sites (rch x))) → (vs : List ℕ) → matches (λ x w. eqb w (val x)) ss vs ≡ true → matches (λ x w. mem w (rch x)) ss vs ≡ true
 unfolding matches

@@ -1,6 +1,7 @@
 pub mod Process
 pub mod Scan
 pub mod Reader
+pub mod Spare
 pub mod Bindings
 pub mod Invariant
 pub mod Flow

@@ -9,7 +9,7 @@ use Rattle.sets.specs.Bits.{mem, sites, within}
 use Rattle.klaim.specs.declared.Loc.{Loc}
 use Rattle.klaim.specs.declared.Loc.the-variants.{At, Here, Use}
 use Rattle.klaim.specs.declared.Slot.{Slot}
-use Rattle.klaim.specs.declared.Slot.the-variants.{Value, Bind}
+use Rattle.klaim.specs.declared.Slot.the-variants.{Value, Bind, Wildcard}
 use Rattle.klaim.specs.Limits.{siteLimit}
 use Rattle.klaim.specs.Process.{Tree, nilT, parT, repT, outT, getT, evalT, acceptT, tree}
 use Rattle.klaim.specs.Net.{Root, Net, Estimate, boxAt, may, holds}
@@ -24,10 +24,11 @@ reach E P (Use u) = may E (u .0)
 unfoldable pub placeSet : ℕ → ℕ
 placeSet l = 2 ^ l
 
--- "each non-binding field": the test of one field on the row's field
+-- "each non-binding field": the test of one field on the row's field; No. 1: `_` "agrees with any site"
 unfoldable pub slotMatch : (Loc → ℕ → Bool) → Slot → ℕ → Bool
 slotMatch f (Value x) v = f x v
 slotMatch f (Bind u) v = true
+slotMatch f Wildcard v = true
 
 -- "with as many fields, each non-binding field's reach holding the row's field": the test, field by field
 unfoldable pub matches : (Loc → ℕ → Bool) → List Slot → List ℕ → Bool
@@ -73,12 +74,13 @@ module _ (E : Estimate) where
   unfoldable pub outRule : ℕ → Loc → List Loc → Bool
   outRule P g fs = choices (map (reached P) (g ∷ fs)) stands
 
-  -- "every `!u` has a B row for the row's field there"
+  -- "every `!u` has a B row for the row's field there"; No. 1: `_` "binds nothing"
   unfoldable pub bound : List Slot → List ℕ → Bool
   bound [] vs = true
   bound (s ∷ ss) [] = true
   bound (Value x ∷ ss) (v ∷ vs) = bound ss vs
   bound (Bind u ∷ ss) (v ∷ vs) = mem v (may E (u .0)) & bound ss vs
+  bound (Wildcard ∷ ss) (v ∷ vs) = bound ss vs
 
   -- "in, read: for every A row at a site in the target's reach with as many fields, each non-binding field's reach holding
   -- the row's field, every `!u` has a B row for the row's field there.": the target stands for the row's site, as a first field

@@ -11,7 +11,7 @@ use Rattle.sets.specs.Bits.{outBit, inBit, readBit, evalBit, acceptBit, has}
 use Rattle.klaim.specs.declared.Loc.{Loc}
 use Rattle.klaim.specs.declared.Loc.the-variants.{At, Here, Use}
 use Rattle.klaim.specs.declared.Slot.{Slot}
-use Rattle.klaim.specs.declared.Slot.the-variants.{Value, Bind}
+use Rattle.klaim.specs.declared.Slot.the-variants.{Value, Bind, Wildcard}
 use Rattle.klaim.specs.Limits.{boxLimit, threadLimit, tupleLimit}
 use Rattle.klaim.specs.Process.{Line, Nil, Par, Rep, Out, In, Read, Eval, Accept, lineAt, tree, move}
 use Rattle.klaim.specs.Net.{Net, home}
@@ -61,12 +61,13 @@ value l e (At s) = s .0
 value l e Here = l
 value l e (Use u) = Option·getD (getD e (u .0) none) 0
 
--- "with the new bindings, a rebound variable replaced"
+-- "with the new bindings, a rebound variable replaced"; No. 1: `_` "binds nothing"
 unfoldable pub bindAll : List Slot → List ℕ → Bindings → Bindings
 bindAll [] vs e = e
 bindAll (s ∷ ss) [] e = e
 bindAll (Value x ∷ ss) (v ∷ vs) e = bindAll ss vs e
 bindAll (Bind u ∷ ss) (v ∷ vs) e = bindAll ss vs (set e (u .0) (some v))
+bindAll (Wildcard ∷ ss) (v ∷ vs) e = bindAll ss vs e
 
 -- "in, read: tuple m stands at the target, has as many fields, and agrees in every non-binding field":
 -- the target stands for the tuple's site, as a first field

@@ -1,4 +1,4 @@
--- Document 01, in its order; No. 7 in a comment is that request of document 02.
+-- Document 01, in its order; No. 1 and No. 7 in a comment are those requests of document 02.
 pub mod Limits
 pub mod Process
 pub mod Rows
@@ -13,4 +13,5 @@ pub mod Invariant
 pub mod WellFormed
 pub mod Listing
 pub mod Rounding
+pub mod Spare
 pub mod Demand3

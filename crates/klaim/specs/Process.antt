@@ -10,7 +10,7 @@ use Rattle.sets.specs.Bits.{inBit, readBit}
 use Rattle.klaim.specs.declared.Loc.{Loc}
 use Rattle.klaim.specs.declared.Loc.the-variants.{At, Here, Use}
 use Rattle.klaim.specs.declared.Slot.{Slot}
-use Rattle.klaim.specs.declared.Slot.the-variants.{Value, Bind}
+use Rattle.klaim.specs.declared.Slot.the-variants.{Value, Bind, Wildcard}
 
 -- "`nil`; `par,a,b`; `rep,a`; `out,a,g,f..`; `in,a,g,f..`; `read,a,g,f..`; `eval,a,g,b,k`; `accept,a,k`":
 -- "a is the line that follows, b the second branch or the body sent, g the target", f.. the fields, k a sandbox
@@ -78,6 +78,7 @@ sitesIn (Value (At s)) = s .0 ∷ []
 sitesIn (Value Here) = []
 sitesIn (Value (Use u)) = []
 sitesIn (Bind u) = []
+sitesIn Wildcard = []
 
 -- the variables used in a field
 unfoldable pub usedIn : Slot → List ℕ
@@ -85,11 +86,13 @@ usedIn (Value (At s)) = []
 usedIn (Value Here) = []
 usedIn (Value (Use u)) = u .0 ∷ []
 usedIn (Bind u) = []
+usedIn Wildcard = []
 
--- "`!u`, which binds u": the variables that a field binds
+-- "`!u`, which binds u": the variables that a field binds; No. 1: `_` "binds nothing"
 unfoldable pub boundIn : Slot → List ℕ
 boundIn (Value x) = []
 boundIn (Bind u) = u .0 ∷ []
+boundIn Wildcard = []
 
 -- 7: "`!u` twice, or with u in one template"
 unfoldable pub clash : List Slot → Bool

@@ -13,7 +13,7 @@ use Rattle.sets.specs.Bits.{outBit, inBit, readBit, evalBit, acceptBit}
 use Rattle.klaim.specs.declared.Loc.{Loc}
 use Rattle.klaim.specs.declared.Loc.the-variants.{At, Here, Use}
 use Rattle.klaim.specs.declared.Slot.{Slot}
-use Rattle.klaim.specs.declared.Slot.the-variants.{Value, Bind}
+use Rattle.klaim.specs.declared.Slot.the-variants.{Value, Bind, Wildcard}
 use Rattle.klaim.specs.Limits.{fieldLimit}
 use Rattle.klaim.specs.Process.{Line, Nil, Par, Rep, Out, In, Read, Eval, Accept, children, boxesOf, slotsOf, sitesIn, usedIn, boundIn}
 
@@ -133,9 +133,16 @@ unfoldable pub bindField : List ℕ → Option Slot
 bindField [] = none
 bindField (b ∷ f) = given (eqb b (code "!")) (varField f >>= λ u. some (Bind (record { 0 = u })))
 
--- a field of a template: "and in `in` and `read` also `!u`"
+-- No. 1: "the field `_`"
+unfoldable pub isWildcard : List ℕ → Bool
+isWildcard f = same f (text "_")
+
+-- a field of a template: "and in `in` and `read` also `!u`"; No. 1: "Templates of `in` and `read` get the field `_`"
 unfoldable pub slotField : List ℕ → Option Slot
-slotField f = otherwise (bindField f) (locField f >>= λ x. some (Value x))
+slotField f =
+    otherwise (bindField f)
+    (otherwise (given (isWildcard f) (some Wildcard))
+    (locField f >>= λ x. some (Value x)))
 
 -- "1 to 4 fields", each read
 unfoldable pub fields : {A : Type 0} → (List ℕ → Option A) → List (List ℕ) → Option (List A)

@@ -12,8 +12,9 @@ pub enum Loc {
     Use(Var),
 }
 
-// A field of a template: a value, or `!u`.
+// A field of a template: a value, `!u`, or `_`, the "field that takes anything" of document 02, No. 1.
 pub enum Slot {
     Value(Loc),
     Bind(Var),
+    Wildcard,
 }

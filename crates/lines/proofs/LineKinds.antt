@@ -56,9 +56,9 @@ module _ (ws : List (List ℕ)) (x : Words) (S : Said ws x) where
   unfolding lineOut numberOf
   out-by = rw (← S .a-is, ← S .target-is .loc-is, fields-are locField 3 loc (λ f m N. N .loc-is) 3 ws (S .fields-is)) (simp given-then)
 
-  pub get-by : (kind : ℕ → Loc → List Slot → Line) → lineGet kind ws ≡ given (below (x .a)) (given (upTo 3 (x .target)) (given (fitAll 4 (x .fields)) (some (kind (x .a) (loc (x .target)) (map slot (names (x .fields)))))))
+  pub get-by : (kind : ℕ → Loc → List Slot → Line) → lineGet kind ws ≡ given (below (x .a)) (given (upTo 3 (x .target)) (given (fitAll 5 (x .fields)) (some (kind (x .a) (loc (x .target)) (map slot (names (x .fields)))))))
   unfolding lineGet numberOf
-  get-by kind = rw (← S .a-is, ← S .target-is .loc-is, fields-are slotField 4 slot (λ f m N. N .slot-is) 3 ws (S .fields-is)) (simp given-then)
+  get-by kind = rw (← S .a-is, ← S .target-is .loc-is, fields-are slotField 5 slot (λ f m N. N .slot-is) 3 ws (S .fields-is)) (simp given-then)
 
   pub eval-by : lineEval ws ≡ given (eqb (x .count) 5) (given (below (x .a)) (given (upTo 3 (x .target)) (given (below (x .c)) (given (below (x .d)) (some (Eval (x .a) (loc (x .target)) (x .c) (x .d)))))))
   unfolding lineEval numberOf
@@ -73,7 +73,7 @@ pub get-line : (d : LineData) → 4 < d .kind → d .kind < 7 → lineOf d ≡ g
 unfolding lineOf
 get-line d p q = rw (ne-eqb (d .kind) 1 (λ e. omega arith), ne-eqb (d .kind) 2 (λ e. omega arith), ne-eqb (d .kind) 3 (λ e. omega arith), ne-eqb (d .kind) 4 (λ e. omega arith), ne-eqb (d .kind) 7 (λ e. omega arith), ne-eqb (d .kind) 8 (λ e. omega arith))
 
-pub get-good : (d : LineData) → 4 < d .kind → d .kind < 7 → lineShape true false false 3 4 d ≡ true → lineGood d ≡ true
+pub get-good : (d : LineData) → 4 < d .kind → d .kind < 7 → lineShape true false false 3 5 d ≡ true → lineGood d ≡ true
 unfolding lineGood _&_
 get-good d p q h = rw (le-leb (d .kind) 8 (omega arith), lt-leb (d .kind) 1 (omega arith), ne-eqb (d .kind) 2 (λ e. omega arith), ne-eqb (d .kind) 3 (λ e. omega arith), ne-eqb (d .kind) 4 (λ e. omega arith), ne-eqb (d .kind) 7 (λ e. omega arith), ne-eqb (d .kind) 8 (λ e. omega arith)) h
 

@@ -95,4 +95,4 @@ lineGood d =
     (cond (eqb (d .kind) 4) (lineShape true false false 3 3 d)
     (cond (eqb (d .kind) 7) (lineShape true true true 3 0 d)
     (cond (eqb (d .kind) 8) (lineShape true false true 0 0 d)
-    (lineShape true false false 3 4 d))))))
+    (lineShape true false false 3 5 d))))))

@@ -21,6 +21,8 @@ use text::OUT;
 use text::PAR;
 use text::READ;
 use text::REP;
+use text::VARIABLE;
+use text::WILDCARD;
 
 // What field k of a cut row of n fields says.
 pub fn number_at(row: &[u8], edges: &[usize; EDGES], n: usize, k: usize) -> u16
@@ -195,9 +197,9 @@ pub const NO_LINE: LineData = LineData {
 };
 
 // Kinds of names up to which a name may stand as a target or a field of `out`, and as a field of `in` and `read`.
-const LOCS: u8 = 3;
+const LOCS: u8 = VARIABLE;
 
-const SLOTS: u8 = 4;
+const SLOTS: u8 = WILDCARD;
 
 fn form_nil(x: Words) -> LineData
     ensures { λ r. ⌜ ((ws : List (List ℕ)) → Said ws x → lineView r ≡ lineNil ws) ⌝ }

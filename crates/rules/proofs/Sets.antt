@@ -7,20 +7,20 @@ use Prim.Native.Nat.{ℕ, suc, _+_, _<_}
 use native.Mathlib.Omega.{arith}
 use lib.ListN.{length, getD, take, set}
 use lib.Seq.{take-suc, take-suc-set}
-use Rattle.sets.specs.Lists.{_&_, imp, all, any, tableFrom, table, below, same, among, fits}
-use Rattle.sets.specs.Bits.{has, mem, sites}
+use Rattle.sets.specs.Lists.{_&_, imp, all, any, same, among, fits}
+use Rattle.sets.specs.Bits.{mem, sites}
 use Rattle.sets.proofs.Lists.{and-yes, and-l, and-r, all-at, all-same, ltb-lt}
-use Rattle.sets.proofs.Tables.{below-in}
 use Rattle.klaim.specs.declared.Var.{Var}
 use Rattle.klaim.specs.declared.Loc.{Loc}
 use Rattle.klaim.specs.declared.Slot.{Slot}
-use Rattle.klaim.specs.declared.Slot.the-variants.{Value, Bind}
+use Rattle.klaim.specs.declared.Slot.the-variants.{Value, Bind, Wildcard}
 use Rattle.klaim.specs.Net.{Estimate, may}
 use Rattle.klaim.specs.Analysis.{reach, reached, slotMatch, matches, choices, stands, bound, outRule, getRule}
 use Rattle.klaim.specs.Invariant.{allBelow}
 use Rattle.tables.specs.View.{locOf, slotOf, LowSlot}
 use Rattle.matching.specs.Index.{Low}
 use Rattle.matching.proofs.Laws.{among-low}
+use Rattle.matching.proofs.Index.{every-site}
 use Rattle.rules.specs.Masks.{anySite, wanted, allowed, fieldSet, Sized}
 use Rattle.rules.specs.declared.Ask.the-variants.{Reach, Wanted, Allowed}
 
@@ -42,27 +42,6 @@ sets-more F x fs r j v four five low e w =
     after : j + 1 + 1 ≡ suc (j + 1)
     after = omega arith
 
--- what a slot wants and allows, as the code tells
-module _ {s : Slot} where
-  pub low-slot : {t : Slot} → s ≡ t → LowSlot s → LowSlot t
-  low-slot e h = subst LowSlot e h
-
-  pub wanted-value : (E : Estimate) (P : ℕ) {x : Loc} → s ≡ Value x → reach E P x ≡ wanted E P s
-  unfolding wanted
-  wanted-value E P e = rw e
-
-  pub wanted-bind : (E : Estimate) (P : ℕ) {u : Var} → s ≡ Bind u → anySite ≡ wanted E P s
-  unfolding wanted
-  wanted-bind E P e = rw e
-
-  pub allowed-value : (E : Estimate) {x : Loc} → s ≡ Value x → anySite ≡ allowed E s
-  unfolding allowed
-  allowed-value E e = rw e
-
-  pub allowed-bind : (E : Estimate) (bs : List ℕ) → E .binds ≡ bs → {u : Var} → s ≡ Bind u → getD bs (u .0) 0 ≡ allowed E s
-  unfolding allowed may
-  allowed-bind E bs b e = rw (e, b)
-
 -- out
 reach-sets : (E : Estimate) (P : ℕ) (cs : List ℕ) → map sites (map (fieldSet E P Reach) cs) ≡ map (reached E P) (map locOf cs)
 unfolding fieldSet
@@ -76,18 +55,15 @@ out-law E P g cs ms rows e x m =
     ∙ ap₂ (λ (y : ℕ) (l : List (List ℕ)). choices (sites y ∷ l) (λ t. any (same t) (E .stand))) x (reach-sets E P cs)
 
 -- in, read
-every-site : all (λ v. mem v anySite) (below 32) ≡ true
-unfolding all below table tableFrom has _&_
-every-site = refl
-
 any-among : (v : ℕ) → v < 32 → among (sites anySite) v ≡ true
-any-among v h = sym (among-low anySite v h) ∙ all-at (λ v. mem v anySite) (below-in 32 v h) every-site
+any-among v h = sym (among-low anySite v h) ∙ every-site v h
 
 module _ (E : Estimate) (P : ℕ) where
   slot-fits : (s : Slot) (v : ℕ) → v < 32 → slotMatch (λ x v. mem v (reach E P x)) s v ≡ among (sites (wanted E P s)) v
   unfolding slotMatch wanted
   slot-fits (Value x) v h = among-low (reach E P x) v h
   slot-fits (Bind u) v h = sym (any-among v h)
+  slot-fits Wildcard v h = sym (any-among v h)
 
   matches-fits : (ss : List Slot) (row : List ℕ) → allBelow 32 row ≡ true → matches (λ x v. mem v (reach E P x)) ss row ≡ fits (map sites (map (wanted E P) ss)) row
   unfolding matches fits allBelow all
@@ -103,6 +79,7 @@ module _ (E : Estimate) (P : ℕ) where
   bound-fits f (s ∷ ss) [] m h = sym m
   bound-fits f (Value x ∷ ss) (v ∷ vs) m h = bound-fits f ss vs (and-r _ _ m) (and-r _ _ h) ∙ sym (and-yes _ (any-among v (ltb-lt v 32 (and-l _ _ h))))
   bound-fits f (Bind u ∷ ss) (v ∷ vs) m h = ap₂ _&_ (among-low (may E (u .0)) v (ltb-lt v 32 (and-l _ _ h))) (bound-fits f ss vs (and-r _ _ m) (and-r _ _ h))
+  bound-fits f (Wildcard ∷ ss) (v ∷ vs) m h = bound-fits f ss vs (and-r _ _ m) (and-r _ _ h) ∙ sym (and-yes _ (any-among v (ltb-lt v 32 (and-l _ _ h))))
 
   imp-same : {a b c d : Bool} → a ≡ c → (a ≡ true → b ≡ d) → imp a b ≡ imp c d
   unfolding imp
@@ -126,3 +103,32 @@ module _ (E : Estimate) (P : ℕ) where
 
       allows : map (allowed E) (Value g ∷ map slotOf cs) ≡ allow
       allows = ap (λ (l : List ℕ). anySite ∷ l) (slot-sets (allowed E) cs) ∙ sym a
+
+-- what a slot wants and allows, as the code tells
+module _ {s : Slot} where
+  pub low-slot : {t : Slot} → s ≡ t → LowSlot s → LowSlot t
+  low-slot e h = subst LowSlot e h
+
+  pub wanted-value : (E : Estimate) (P : ℕ) {x : Loc} → s ≡ Value x → reach E P x ≡ wanted E P s
+  unfolding wanted
+  wanted-value E P e = rw e
+
+  pub wanted-bind : (E : Estimate) (P : ℕ) {u : Var} → s ≡ Bind u → anySite ≡ wanted E P s
+  unfolding wanted
+  wanted-bind E P e = rw e
+
+  pub wanted-wildcard : (E : Estimate) (P : ℕ) → s ≡ Wildcard → anySite ≡ wanted E P s
+  unfolding wanted
+  wanted-wildcard E P e = rw e
+
+  pub allowed-value : (E : Estimate) {x : Loc} → s ≡ Value x → anySite ≡ allowed E s
+  unfolding allowed
+  allowed-value E e = rw e
+
+  pub allowed-bind : (E : Estimate) (bs : List ℕ) → E .binds ≡ bs → {u : Var} → s ≡ Bind u → getD bs (u .0) 0 ≡ allowed E s
+  unfolding allowed may
+  allowed-bind E bs b e = rw (e, b)
+
+  pub allowed-wildcard : (E : Estimate) → s ≡ Wildcard → anySite ≡ allowed E s
+  unfolding allowed
+  allowed-wildcard E e = rw e

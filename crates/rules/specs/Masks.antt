@@ -7,7 +7,7 @@ use Prim.Native.Nat.{ℕ, _≤_}
 use lib.ListN.{length}
 use Rattle.sets.specs.Lists.{all}
 use Rattle.klaim.specs.declared.Slot.{Slot}
-use Rattle.klaim.specs.declared.Slot.the-variants.{Value, Bind}
+use Rattle.klaim.specs.declared.Slot.the-variants.{Value, Bind, Wildcard}
 use Rattle.klaim.specs.Net.{Estimate, may}
 use Rattle.klaim.specs.Analysis.{reach}
 use Rattle.klaim.specs.Invariant.{allBelow, distinct}
@@ -20,15 +20,17 @@ use Rattle.rules.specs.declared.Ask.the-variants.{Reach, Wanted, Allowed
 abbrev pub anySite : ℕ
 anySite = 4294967295
 
--- what a field agrees with: a value's reach, and `!u` any site
+-- what a field agrees with: a value's reach, and `!u` and `_` any site
 unfoldable pub wanted : Estimate → ℕ → Slot → ℕ
 wanted E P (Value x) = reach E P x
 wanted E P (Bind u) = anySite
+wanted E P Wildcard = anySite
 
--- what a row's field may be: for `!u` what u may become, for a value any site
+-- what a row's field may be: for `!u` what u may become, else any site
 unfoldable pub allowed : Estimate → Slot → ℕ
 allowed E (Value x) = anySite
 allowed E (Bind u) = may E (u .0)
+allowed E Wildcard = anySite
 
 -- the set for a field, given by its byte, by what is asked of it
 unfoldable pub fieldSet : Estimate → ℕ → Ask → ℕ → ℕ

@@ -15,7 +15,7 @@ use klaim::Loc;
 use klaim::Slot;
 use matching::ANY;
 
-// What a field of a template agrees with: a value's reach, `!u` any site.
+// What a field of a template agrees with: a value's reach, `!u` and `_` any site.
 fn wanted(slot: Slot, places: u32, binds: &[u32; 32]) -> u32
     requires { ⌜ LowSlot slot ⌝ }
     ensures { λ r. ⌜ ((E : Estimate) → E .binds ≡ now (binds .entry) → r ≡ wantedOf E places slot) ⌝ }
@@ -23,10 +23,11 @@ fn wanted(slot: Slot, places: u32, binds: &[u32; 32]) -> u32
     match slot {
         Slot::Value(x) => flow::reach(x, places, binds),
         Slot::Bind(_) => ANY,
+        Slot::Wildcard => ANY,
     }
 }
 
-// What the row's field may be: for `!u` what u may become, for a value any site.
+// What the row's field may be: for `!u` what u may become, else any site.
 fn allowed(slot: Slot, binds: &[u32; 32]) -> u32
     requires { ⌜ LowSlot slot ⌝ }
     ensures { λ r. ⌜ ((E : Estimate) → E .binds ≡ now (binds .entry) → r ≡ allowedOf E slot) ⌝ }
@@ -37,6 +38,7 @@ fn allowed(slot: Slot, binds: &[u32; 32]) -> u32
             let at = u.0 as usize;
             binds[at]
         }
+        Slot::Wildcard => ANY,
     }
 }
 

@@ -10,7 +10,7 @@ use Rattle.sets.specs.Lists.{table}
 use Rattle.klaim.specs.declared.Loc.{Loc}
 use Rattle.klaim.specs.declared.Loc.the-variants.{At, Here, Use}
 use Rattle.klaim.specs.declared.Slot.{Slot}
-use Rattle.klaim.specs.declared.Slot.the-variants.{Value, Bind}
+use Rattle.klaim.specs.declared.Slot.the-variants.{Value, Bind, Wildcard}
 use Rattle.klaim.specs.Process.{Line, ordered}
 use Rattle.klaim.specs.Process as Process
 use Rattle.klaim.specs.Net as Spec
@@ -19,12 +19,12 @@ use Rattle.tables.specs.declared.Estimate.{Estimate}
 use Rattle.tables.specs.declared.Action.{Action}
 use Rattle.tables.specs.declared.Action.the-variants.{Nil, Par, Rep, Out, In, Read, Eval, Accept}
 
--- a target or a field as a byte: site s is s, `self` 32, variable u 64 + u, `!u` 96 + u
+-- a target or a field as a byte: site s is s, `self` 32, variable u 64 + u, `!u` 96 + u, `_` 128
 unfoldable pub locOf : ℕ → Loc
 locOf c = cond (eqb (c / 32 % 4) 0) (At (record { 0 = c % 32 })) (cond (eqb (c / 32 % 4) 2) (Use (record { 0 = c % 32 })) Here)
 
 unfoldable pub slotOf : ℕ → Slot
-slotOf c = cond (eqb (c / 32 % 4) 3) (Bind (record { 0 = c % 32 })) (Value (locOf c))
+slotOf c = cond (eqb c 128) Wildcard (cond (eqb (c / 32 % 4) 3) (Bind (record { 0 = c % 32 })) (Value (locOf c)))
 
 -- byte j of line q
 abbrev pub lineByte : List ℕ → ℕ → ℕ → ℕ
@@ -103,6 +103,7 @@ LowLoc (Use u) = u .0 < 32
 abbrev pub LowSlot : Slot → Type 0
 LowSlot (Value x) = LowLoc x
 LowSlot (Bind u) = u .0 < 32
+LowSlot Wildcard = Unit {0}
 
 -- the numbers of an action are within limits
 abbrev pub LowAction : Action → Type 0

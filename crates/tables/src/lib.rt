@@ -126,10 +126,16 @@ pub fn loc_of(code: u8) -> Loc
     }
 }
 
-// A field of a template from its byte: `!u` is 96 + u.
+// The byte of `_`.
+pub const WILDCARD_CODE: u8 = 128;
+
+// A field of a template from its byte: `!u` is 96 + u, `_` is 128.
 pub fn slot_of(code: u8) -> Slot
     ensures { λ r. ⌜ (r ≡ slotOf code) × LowSlot r ⌝ }
 {
+    if code == WILDCARD_CODE {
+        return Slot::Wildcard;
+    }
     if code / SORT % 4 == 3 {
         return Slot::Bind(Var(code % SORT));
     }

@@ -17,8 +17,8 @@ use Rattle.sets.proofs.Lists.{and-l, and-r, eqb-eq, same-eq, in-none, all-i}
 use Rattle.klaim.specs.declared.Loc.{Loc}
 use Rattle.klaim.specs.declared.Loc.the-variants.{At, Here, Use}
 use Rattle.klaim.specs.declared.Slot.{Slot}
-use Rattle.klaim.specs.declared.Slot.the-variants.{Value, Bind}
-use Rattle.klaim.specs.Rows.{text, given, otherwise, _>>=_, lettered, siteField, varField, isSelf, locField, bindField, slotField, towards}
+use Rattle.klaim.specs.declared.Slot.the-variants.{Value, Bind, Wildcard}
+use Rattle.klaim.specs.Rows.{text, given, otherwise, _>>=_, lettered, siteField, varField, isSelf, locField, bindField, isWildcard, slotField, towards}
 use Rattle.text.specs.declared.Name.{Name}
 use Rattle.text.specs.Fields.{noNumber, numberOf, binderOf, nameAs, upTo, loc, slot, sitesTo, pickName, Named, placeIn, letterOf}
 use Rattle.text.proofs.Fields.{same-long}
@@ -51,7 +51,7 @@ picked-loc false true tu b s u = refl
 picked-loc false false true b s u = refl
 picked-loc false false false b s u = refl
 
-picked-slot : (tb ts here tu : Bool) (b s u : ℕ) → let m = picked tb ts here tu b s u in given (upTo 4 m) (some (slot m)) ≡ otherwise (given tb (some b) >>= λ u. some (Bind (record { 0 = u }))) (locBy (given ts (some s)) here (given tu (some u)) >>= λ x. some (Value x))
+picked-slot : (tb ts here tu : Bool) (b s u : ℕ) → let m = picked tb ts here tu b s u in given (upTo 5 m) (some (slot m)) ≡ otherwise (given tb (some b) >>= λ u. some (Bind (record { 0 = u }))) (locBy (given ts (some s)) here (given tu (some u)) >>= λ x. some (Value x))
 unfolding given otherwise _>>=_ upTo _&_ loc slot
 picked-slot true ts here tu b s u = refl
 picked-slot false true here tu b s u = refl
@@ -70,10 +70,10 @@ bound-only (a ∷ f) x q = go (eqb a 33) refl q
     go true e q = let p : a ≡ 33 = eqb-eq e in rw p (refl, refl, refl)
 
 -- the readings of a field make its name
-module _ (f : List ℕ) (b s u : ℕ) (here : Bool) (B : binderOf b ≡ bindField f) (S : numberOf s ≡ siteField f) (H : here ≡ isSelf f) (U : numberOf u ≡ varField f) where
-  named-slot : let m = pickName b s here u in given (upTo 4 m) (some (slot m)) ≡ slotField f
-  unfolding pickName slotField locField binderOf numberOf
-  named-slot = rw (← B, ← S, ← H, ← U) (picked-slot (ltb b noNumber) (ltb s noNumber) here (ltb u noNumber) b s u)
+module _ (f : List ℕ) (b s u : ℕ) (here : Bool) (B : binderOf b ≡ bindField f) (S : numberOf s ≡ siteField f) (H : here ≡ isSelf f) (U : numberOf u ≡ varField f) (W : isWildcard f ≡ false) where
+  named-slot : let m = pickName b s here u in given (upTo 5 m) (some (slot m)) ≡ slotField f
+  unfolding pickName slotField locField binderOf numberOf given otherwise
+  named-slot = rw (W, ← B, ← S, ← H, ← U) (picked-slot (ltb b noNumber) (ltb s noNumber) here (ltb u noNumber) b s u)
 
   named-others : (t : Bool) → ltb b noNumber ≡ t → let m = picked t (ltb s noNumber) here (ltb u noNumber) b s u in (given (upTo 1 m) (some (m .number)) ≡ siteField f) × (given (upTo 2 m) (some (sitesTo m)) ≡ towards f) × (given (upTo 3 m) (some (loc m)) ≡ locField f)
   unfolding binderOf numberOf upTo locField towards given _>>=_ _&_
@@ -86,9 +86,14 @@ module _ (f : List ℕ) (b s u : ℕ) (here : Bool) (B : binderOf b ≡ bindFiel
 
 -- an empty field names nothing
 pub named-none : (f : List ℕ) → length f ≡ 0 → Named f (nameAs 0 0)
-unfolding given upTo _&_ siteField towards locField slotField bindField varField isSelf lettered same text otherwise _>>=_
+unfolding given upTo _&_ siteField towards locField slotField bindField isWildcard varField isSelf lettered same text otherwise _>>=_
 named-none [] h = record { site = refl; toward = refl; loc-is = refl; slot-is = refl }
 named-none (b ∷ f) h = absurd (omega arith)
+
+-- `_` is nothing else
+pub named-wildcard : (f : List ℕ) → isWildcard f ≡ true → Named f (nameAs 5 0)
+unfolding given upTo _&_ slot siteField towards locField slotField bindField isWildcard varField isSelf lettered same text otherwise _>>=_
+named-wildcard f h = rw (same-eq f (text "_") h) (record { site = refl; toward = refl; loc-is = refl; slot-is = refl })
 
 -- the place of a word
 pub placed-next : (n : ℕ) (w : String) (ws : List String) (f : List ℕ) → same f (text w) ≡ false → placeIn n (w ∷ ws) f ≡ placeIn (suc n) ws f

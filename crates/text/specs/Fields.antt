@@ -14,7 +14,7 @@ use Rattle.sets.specs.Bits.{everyBit}
 use Rattle.klaim.specs.declared.Loc.{Loc}
 use Rattle.klaim.specs.declared.Loc.the-variants.{At, Here, Use}
 use Rattle.klaim.specs.declared.Slot.{Slot}
-use Rattle.klaim.specs.declared.Slot.the-variants.{Value, Bind}
+use Rattle.klaim.specs.declared.Slot.the-variants.{Value, Bind, Wildcard}
 use Rattle.klaim.specs.Rows.{text, digit, decimal, siteField, locField, slotField, towards, given, _>>=_}
 use Rattle.text.specs.declared.Name.{Name}
 
@@ -56,11 +56,11 @@ bits = 0 ∷ everyBit
 unfoldable pub binderOf : ℕ → Option Slot
 binderOf n = numberOf n >>= λ u. some (Bind (record { 0 = u }))
 
--- kinds of names: 1 a site, 2 `self`, 3 a variable, 4 `!u`; 0 stands for none
+-- kinds of names: 1 a site, 2 `self`, 3 a variable, 4 `!u`, 5 `_`; 0 stands for none
 abbrev pub nameAs : ℕ → ℕ → Name
 nameAs kind number = record { kind = kind; number = number }
 
--- a name of the kinds from 1 to k: 1 sites, 2 what a D row may name, 3 targets and fields of `out`, 4 fields of `in` and `read`
+-- a name of the kinds from 1 to k: 1 sites, 2 what a D row may name, 3 targets and fields of `out`, 5 fields of `in` and `read`
 unfoldable pub upTo : ℕ → Name → Bool
 upTo k m = leb 1 (m .kind) & leb (m .kind) k
 
@@ -68,7 +68,7 @@ unfoldable pub loc : Name → Loc
 loc m = cond (eqb (m .kind) 1) (At (record { 0 = m .number })) (cond (eqb (m .kind) 2) Here (Use (record { 0 = m .number })))
 
 unfoldable pub slot : Name → Slot
-slot m = cond (eqb (m .kind) 4) (Bind (record { 0 = m .number })) (Value (loc m))
+slot m = cond (eqb (m .kind) 4) (Bind (record { 0 = m .number })) (cond (eqb (m .kind) 5) Wildcard (Value (loc m)))
 
 -- the sites of the t of a D row
 unfoldable pub sitesTo : Name → List ℕ
@@ -88,7 +88,7 @@ pub record Named (f : List ℕ) (m : Name) : Type 0 where
   pub site : given (upTo 1 m) (some (m .number)) ≡ siteField f
   pub toward : given (upTo 2 m) (some (sitesTo m)) ≡ towards f
   pub loc-is : given (upTo 3 m) (some (loc m)) ≡ locField f
-  pub slot-is : given (upTo 4 m) (some (slot m)) ≡ slotField f
+  pub slot-is : given (upTo 5 m) (some (slot m)) ≡ slotField f
 
 -- the place of a word in a list, counted from n; 0 where it does not stand there
 unfoldable pub placeIn : ℕ → List String → List ℕ → ℕ

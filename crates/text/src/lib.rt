@@ -5,7 +5,7 @@ ghost use Prim.Native.Nat.{_+_, _-_, _<_, _≤_};
 ghost use lib.ListN.{length, set, take, drop};
 ghost use lib.Dec.{eqb};
 ghost use Rattle.sets.specs.Lists.{either, same as sameBytes};
-ghost use Rattle.klaim.specs.Rows.{split, comma, newline, at, number as numberField, lettered as letteredField, siteField, varField, isSelf, bindField, rightsField};
+ghost use Rattle.klaim.specs.Rows.{split, comma, newline, at, number as numberField, lettered as letteredField, siteField, varField, isSelf, isWildcard, bindField, rightsField};
 ghost use Rattle.text.specs.Pieces.{endOf, edgeLimit, Cut, Mark, commaAt};
 ghost use Rattle.text.specs.Fields.{numberOf, shapeOf, valueOf, joinedOf, digitsField, rightsOf, hitAt, binderOf, pickName, Named, letterOf, wordOf};
 
@@ -279,6 +279,12 @@ pub fn is_self(f: &[u8]) -> bool
     same(f, b"self")
 }
 
+fn is_wildcard(f: &[u8]) -> bool
+    ensures { λ r. ⌜ r ≡ isWildcard (now (f .entry)) ⌝ }
+{
+    same(f, b"_")
+}
+
 // The variable of `!u`.
 pub fn binder(f: &[u8]) -> u16
     ensures { λ r. ⌜ binderOf r ≡ bindField (now (f .entry)) ⌝ }
@@ -334,6 +340,8 @@ pub const VARIABLE: u8 = 3;
 
 pub const BINDER: u8 = 4;
 
+pub const WILDCARD: u8 = 5;
+
 pub const NO_NAME: Name = Name {
     kind: NOTHING,
     number: 0,
@@ -375,6 +383,12 @@ pub fn named(f: &[u8]) -> Name
 {
     if f.len() == 0 {
         return NO_NAME;
+    }
+    if is_wildcard(f) {
+        return Name {
+            kind: WILDCARD,
+            number: 0,
+        };
     }
     pick_name(binder(f), site(f), is_self(f), variable(f))
 }

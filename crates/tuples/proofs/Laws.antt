@@ -16,7 +16,7 @@ use Rattle.sets.proofs.Lists.{and-r, and-yes, and-no}
 use Rattle.klaim.specs.declared.Var.{Var}
 use Rattle.klaim.specs.declared.Loc.{Loc}
 use Rattle.klaim.specs.declared.Slot.{Slot}
-use Rattle.klaim.specs.declared.Slot.the-variants.{Value, Bind}
+use Rattle.klaim.specs.declared.Slot.the-variants.{Value, Bind, Wildcard}
 use Rattle.klaim.specs.Analysis.{slotMatch, matches}
 use Rattle.klaim.specs.State.{Bindings, Thread}
 use Rattle.klaim.specs.Engine.{value, bindAll, agrees}
@@ -27,7 +27,7 @@ use Rattle.tables.proofs.Bytes.{row-long, row-get}
 use Rattle.threads.specs.View.{rebound}
 use Rattle.tuples.specs.Slots.{bindSlot}
 
--- the two sorts of a slot
+-- the three sorts of a slot
 module _ {s : Slot} where
   pub bind-value : {x : Loc} → s ≡ Value x → (v : ℕ) (e : Bindings) → e ≡ bindSlot s v e
   unfolding bindSlot
@@ -37,6 +37,10 @@ module _ {s : Slot} where
   unfolding bindSlot
   bind-var q v e = rw q
 
+  pub bind-wildcard : s ≡ Wildcard → (v : ℕ) (e : Bindings) → e ≡ bindSlot s v e
+  unfolding bindSlot
+  bind-wildcard q v e = rw q
+
   pub match-value : (f : Loc → ℕ → Bool) {x : Loc} → s ≡ Value x → (v : ℕ) → f x v ≡ slotMatch f s v
   unfolding slotMatch
   match-value f q v = rw q
@@ -44,6 +48,10 @@ module _ {s : Slot} where
   pub match-bind : (f : Loc → ℕ → Bool) {u : Var} → s ≡ Bind u → (v : ℕ) → true ≡ slotMatch f s v
   unfolding slotMatch
   match-bind f q v = rw q
+
+  pub match-wildcard : (f : Loc → ℕ → Bool) → s ≡ Wildcard → (v : ℕ) → true ≡ slotMatch f s v
+  unfolding slotMatch
+  match-wildcard f q v = rw q
 
   pub low-value : {x : Loc} → s ≡ Value x → LowSlot s → LowLoc x
   low-value q h = rw q at h
@@ -56,6 +64,7 @@ bind-one : (s : Slot) (ss : List Slot) (v : ℕ) (vs : List ℕ) (e : Bindings) 
 unfolding bindAll bindSlot
 bind-one (Value x) ss v vs e = refl
 bind-one (Bind u) ss v vs e = refl
+bind-one Wildcard ss v vs e = refl
 
 pub bind-target : (g : Loc) (ss : List Slot) (vs : List ℕ) (e : Bindings) → 0 < length vs → bindAll (Value g ∷ ss) vs e ≡ bindAll ss (drop 1 vs) e
 unfolding bindAll

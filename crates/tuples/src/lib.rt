@@ -23,6 +23,7 @@ fn bind_slot(th: Thread, slot: Slot, v: u8) -> Thread
     match slot {
         Slot::Value(_) => th,
         Slot::Bind(u) => threads::bind(th, u, v),
+        Slot::Wildcard => th,
     }
 }
 
@@ -57,6 +58,7 @@ fn slot_agrees(th: Thread, slot: Slot, v: u8) -> bool
     match slot {
         Slot::Value(x) => v == threads::value(th, x),
         Slot::Bind(_) => true,
+        Slot::Wildcard => true,
     }
 }
 

@@ -10,7 +10,7 @@ use lib.ListN.{length, getD, take, drop, length-take, drop-of-length-le}
 use lib.Seq.{drop-cons, getD-take}
 use borrow.Author.Tests.{ne-eqb}
 use Rattle.sets.specs.Lists.{_&_, either, any, empty, concat, among, _⧺_}
-use Rattle.sets.proofs.Lists.{iff, and-i, and-l, and-r, in-keep, keep-out, among-in, in-among}
+use Rattle.sets.proofs.Lists.{iff, eqb-eq, and-i, and-l, and-r, in-keep, keep-out, among-in, in-among}
 use Rattle.sets.specs.Bits.{inBit, readBit, has, join, less, grant, joins}
 use Rattle.sets.proofs.Bits.{has-or, has-none, has-self, or-has-l, same-bits, mem-one, has-rest, less-none}
 use Rattle.sets.proofs.Joins.{join-none, join-none-r, join-assoc}
@@ -19,7 +19,7 @@ use Rattle.klaim.specs.declared.Var.{Var}
 use Rattle.klaim.specs.declared.Loc.{Loc}
 use Rattle.klaim.specs.declared.Loc.the-variants.{At, Here, Use}
 use Rattle.klaim.specs.declared.Slot.{Slot}
-use Rattle.klaim.specs.declared.Slot.the-variants.{Value, Bind}
+use Rattle.klaim.specs.declared.Slot.the-variants.{Value, Bind, Wildcard}
 use Rattle.klaim.specs.Process.{usedIn, boundIn, Tree, outT, getT, node, tree, without, free}
 use Rattle.tables.specs.declared.Action.{Action}
 use Rattle.tables.specs.declared.Action.the-variants.{Nil, Par, Rep, Out, In, Read, Eval, Accept}
@@ -93,9 +93,17 @@ sort-slot (suc (suc zero)) n l b h = h
 sort-slot (suc (suc (suc zero))) n l b h = mask-none
 sort-slot (suc (suc (suc (suc x)))) n l b h = absurd (omega arith)
 
+-- a byte that may be that of `_`, which names no variable
+wildcard-or : (f : Slot → ℕ) (k c : ℕ) → f Wildcard ≡ varIn k 128 → {s : Slot} → f s ≡ varIn k c → f (cond (eqb c 128) Wildcard s) ≡ varIn k c
+wildcard-or f k c w {s} h = go (eqb c 128) refl
+  where
+    go : (b : Bool) → eqb c 128 ≡ b → f (cond b Wildcard s) ≡ varIn k c
+    go true e = w ∙ ap (varIn k) (sym (eqb-eq e))
+    go false e = h
+
 used-slot : (c : ℕ) → maskOf (usedIn (slotOf c)) ≡ varIn 2 c
-unfolding slotOf varIn
-used-slot c = sort-slot (c / 32 % 4) (c % 32) (locOf c) (omega arith) (used-loc c)
+unfolding slotOf varIn usedIn grant
+used-slot c = wildcard-or (λ s. maskOf (usedIn s)) 2 c mask-none (sort-slot (c / 32 % 4) (c % 32) (locOf c) (omega arith) (used-loc c))
 
 sort-bound : (b : Bool) (n : ℕ) (l : Loc) → maskOf (boundIn (cond b (Bind (record { 0 = n })) (Value l))) ≡ grant b (2 ^ n)
 unfolding boundIn grant
@@ -103,8 +111,8 @@ sort-bound true n l = mask-one n
 sort-bound false n l = mask-none
 
 bound-slot : (c : ℕ) → maskOf (boundIn (slotOf c)) ≡ varIn 3 c
-unfolding slotOf varIn
-bound-slot c = sort-bound (eqb (c / 32 % 4) 3) (c % 32) (locOf c)
+unfolding slotOf varIn boundIn grant
+bound-slot c = wildcard-or (λ s. maskOf (boundIn s)) 3 c mask-none (sort-bound (eqb (c / 32 % 4) 3) (c % 32) (locOf c))
 
 -- a loop that gathers sets from the last to the first
 pub joins-end : (f : ℕ → ℕ) (xs : List ℕ) (k : ℕ) → 0 ≡ joins f (drop k (take k xs))

@@ -16,5 +16,9 @@ returns-3 : tie.Need-returns-3
 unfolding hits _&_
 returns-3 c = (search tests, search tests)
 
+returns-4 : tie.Need-returns-4
+unfolding hits _&_
+returns-4 c = (search tests, search tests)
+
 pub hit-spec : {M : Type 1} → statement M
-hit-spec = tie.close (tie.spec returns returns-2 returns-3)
+hit-spec = tie.close (tie.spec returns returns-2 returns-3 returns-4)

@@ -29,6 +29,10 @@ returns-4 : tie.Need-returns-4
 unfolding codeOf
 returns-4 c = search tests
 
+returns-5 : tie.Need-returns-5
+unfolding codeOf
+returns-5 c = search tests
+
 pub code-spec : {M : Type 1} → statement M
 code-spec =
-    tie.close (tie.spec cast-number returns add-result returns-2 add-result-2 returns-3 returns-4)
+    tie.close (tie.spec cast-number returns add-result returns-2 add-result-2 returns-3 returns-4 returns-5)

@@ -1,10 +1,13 @@
 use borrow.Author.Needs.{needs}
-use Rattle.rules.proofs.Sets.{low-slot, allowed-value, allowed-bind}
+use Rattle.rules.proofs.Sets.{low-slot, allowed-value, allowed-bind, allowed-wildcard}
 use Rattle.rules.proofs.allowed.Statement.{statement}
 use Rattle.rules.proofs.allowed.Tie as tie
 
 enum-told : tie.Need-enum-told
 enum-told c = search needs
+
+enum-told-2 : tie.Need-enum-told-2
+enum-told-2 c = search needs
 
 enum-known-slot : tie.Need-enum-known-slot
 enum-known-slot c = search needs
@@ -24,6 +27,9 @@ returns c = λ E e. allowed-value E (c .enum-told .given .1)
 returns-2 : tie.Need-returns-2
 returns-2 c = λ E e. allowed-bind E _ e (c .before .before .before .slot .given .1)
 
+returns-3 : tie.Need-returns-3
+returns-3 c = λ E e. allowed-wildcard E (c .enum-told2 .given .1)
+
 pub allowed-spec : {M : Type 1} → statement M
 allowed-spec =
     tie.close
@@ -33,5 +39,7 @@ allowed-spec =
     cast-at
     mul-result
     element-copy-out-result
+    enum-told-2
     returns
-    returns-2)
+    returns-2
+    returns-3)

@@ -1,10 +1,17 @@
+use mathlib.Core.Path.{sym, _∙_}
 use borrow.Author.Needs.{needs}
-use Rattle.text.proofs.Names.{named-none, named-is}
+use Rattle.text.proofs.Names.{named-none, named-wildcard, named-is}
 use Rattle.text.proofs.named.Statement.{statement}
 use Rattle.text.proofs.named.Tie as tie
 
 returns : tie.Need-returns
 returns c = named-none _ (c .if1 .taken)
+
+is-wildcard-requires : tie.Need-is-wildcard-requires
+is-wildcard-requires c κs = search needs
+
+returns-2 : tie.Need-returns-2
+returns-2 c = named-wildcard _ (sym (c .before .is-wildcard .ensures) ∙ c .if2 .taken)
 
 binder-requires : tie.Need-binder-requires
 binder-requires c κs = search needs
@@ -21,17 +28,19 @@ variable-requires c κs = search needs
 pick-name-requires : tie.Need-pick-name-requires
 pick-name-requires c κs = search needs
 
-returns-2 : tie.Need-returns-2
-returns-2 c = named-is _ _ _ _ _ (c .before .before .before .before .binder .ensures) (c .before .before .before .site .ensures) (c .before .before .is-self .ensures) (c .before .variable .ensures) (c .pick-name .ensures)
+returns-3 : tie.Need-returns-3
+returns-3 c = named-is _ _ _ _ _ (c .before .before .before .before .binder .ensures) (c .before .before .before .site .ensures) (c .before .before .is-self .ensures) (c .before .variable .ensures) (sym (c .before .before .before .before .before .before .is-wildcard .ensures) ∙ c .before .before .before .before .before .if2 .left) (c .pick-name .ensures)
 
 pub named-spec : {M : Type 1} → statement M
 named-spec =
     tie.close
     (tie.spec
     returns
+    is-wildcard-requires
+    returns-2
     binder-requires
     site-requires
     is-self-requires
     variable-requires
     pick-name-requires
-    returns-2)
+    returns-3)
