@@ -44,13 +44,15 @@ impl Thread {
     const BLANK: Thread =
         Thread { site: Site(0), policy: EMPTY_POLICY, line: 0, bindings: Bindings::NONE };
 
-    /// The site that a target or a non-binding field stands for here. Roots
-    /// are closed and bindings are handed on, so a variable met is bound.
+    /// The site that a target, or a field that does not take any site, stands
+    /// for here. Roots are closed and bindings are handed on, so a variable met
+    /// is bound.
     fn value(&self, term: Term) -> Site {
         match term {
             Term::Site(site) => site,
             Term::Own => self.site,
-            Term::Var(u) | Term::Bind(u) => self.bindings.get(u).expect("roots are closed"),
+            Term::Var(u) => self.bindings.get(u).expect("roots are closed"),
+            Term::Bind(_) | Term::Wildcard => unreachable!("these take any site"),
         }
     }
 
@@ -59,7 +61,7 @@ impl Thread {
         let mut pattern =
             Pattern { site: self.value(target), len: fields.len, fields: [None; MAX_FIELDS] };
         for (field, &term) in pattern.fields.iter_mut().zip(fields.slice()) {
-            if !matches!(term, Term::Bind(_)) {
+            if !term.takes_any() {
                 *field = Some(self.value(term));
             }
         }
@@ -67,7 +69,7 @@ impl Thread {
     }
 }
 
-/// A template whose non-binding fields are evaluated; a binding one is none.
+/// A template whose fields are evaluated; one that takes any site is none.
 struct Pattern {
     site: Site,
     len: u8,

@@ -25,13 +25,13 @@ pub enum Answer {
 }
 
 /// "The reach of a field is the site itself, the place set for `self`, or
-/// the B sites of a variable." A binding field has no reach of its own.
+/// the B sites of a variable." A binding field and a wildcard have none.
 pub fn reach(term: Term, place: Mask, estimate: &Estimate) -> Mask {
     match term {
         Term::Site(s) => s.bit(),
         Term::Own => place,
         Term::Var(u) => estimate.binds[u.index()],
-        Term::Bind(_) => 0,
+        Term::Bind(_) | Term::Wildcard => 0,
     }
 }
 
@@ -76,12 +76,13 @@ impl RowSets {
     }
 
     /// The rows at a site of `sites`, with as many fields as `fields`, each
-    /// non-binding field's reach holding the row's field.
+    /// non-binding field's reach holding the row's field. A wildcard "agrees
+    /// with any site", so that its column is passed over.
     fn inside(&self, sites: Mask, fields: &Terms, place: Mask, estimate: &Estimate) -> RowSet {
         let mut rows = self.with_len[usize::from(fields.len)];
         keep(&mut rows, &union(&self.at_site, sites));
         for (sets, &term) in self.with_field.iter().zip(fields.slice()) {
-            if !matches!(term, Term::Bind(_)) {
+            if !term.takes_any() {
                 keep(&mut rows, &union(sets, reach(term, place, estimate)));
             }
         }

@@ -148,6 +148,108 @@ fn rebinding_and_copies() {
     assert_eq!(state[..4], ["state,1,2,8", &thread, "tuple,s2,s0", "tuple,s0,s2,s0"]);
 }
 
+/// "`_`, which agrees with any site and binds nothing."
+#[test]
+fn wildcards_match() {
+    let net = "N,4 T,s1,s2 T,s1,s2,s3 T,s1,s3,s3 T,s2,s2,s3 T,s1,s2,s3,s0 L,s0,0 L,s0,4 \
+        Q,0,read,1,s1,_,s3 Q,1,in,2,s1,_,_ Q,2,in,3,s1,_ Q,3,nil \
+        Q,4,read,5,s1,!u0,_ Q,5,read,6,s1,_,!u1 Q,6,in,7,s1,_,_,_ Q,7,rep,8 Q,8,nil";
+    let state = expect(
+        net,
+        "",
+        &[
+            ("step,0,0,0", "refused,23,0"),
+            ("step,0,3,0", "refused,23,0"),
+            ("step,0,4,0", "refused,23,0"),
+            ("step,0,5,0", "refused,22,0"),
+            ("step,0,2,0", "performed,s0,s1,r"),
+            ("step,1,2,0", "performed,s0,s1,r"),
+            ("step,1,1,0", "performed,s0,s1,r"),
+            ("guarded,0,1,0", "refused,26,0"),
+            ("step,0,1,0", "performed,s0,s1,i"),
+            ("step,0,1,0", "refused,23,0"),
+            ("step,1,3,0", "performed,s0,s1,i"),
+            ("step,0,0,0", "performed,s0,s1,i"),
+        ],
+    );
+    let thread = format!("thread,s0,{},7,u0=s3 u1=s3", "00".repeat(32));
+    assert_eq!(state[..4], ["state,1,2,9", &thread, "tuple,s1,s3,s3", "tuple,s2,s2,s3"]);
+}
+
+/// The two threads do the same; only the first binds the spare variable, and
+/// what the second had bound before stays.
+#[test]
+fn wildcard_for_a_spare_variable() {
+    let twin = |a: usize, fields: &str| {
+        format!(
+            "Q,{a},read,{},s1,!u9,!u1 Q,{},in,{},s1,{fields} Q,{},rep,{} Q,{},nil ",
+            a + 1,
+            a + 1,
+            a + 2,
+            a + 2,
+            a + 3,
+            a + 3
+        )
+    };
+    let (first, second) = (twin(0, "!u9,!u1"), twin(4, "_,!u1"));
+    let net = format!("N,4 T,s1,s0,s1 T,s1,s2,s3 T,s1,s2,s1 L,s0,0 L,s0,4 {first}{second}");
+    let state = expect(
+        &net,
+        "",
+        &[
+            ("step,0,0,0", "performed,s0,s1,r"),
+            ("step,1,0,0", "performed,s0,s1,r"),
+            ("step,0,1,0", "performed,s0,s1,i"),
+            ("step,1,1,0", "performed,s0,s1,i"),
+        ],
+    );
+    let policy = "00".repeat(32);
+    assert_eq!(state[1], format!("thread,s0,{policy},2,u1=s3 u9=s2"));
+    assert_eq!(state[2], format!("thread,s0,{policy},6,u1=s1 u9=s0"));
+    assert_eq!(state[3..], ["tuple,s1,s0,s1", "lines,8", "roots"]);
+}
+
+#[test]
+fn ready_and_wildcards() {
+    let net = "N,2 T,s1,s0,s1 L,s0,0 L,s0,2 L,s0,4 Q,0,in,1,s1,_,s0 Q,1,nil \
+        Q,2,read,3,s1,_ Q,3,nil Q,4,in,5,s1,_,_ Q,5,nil";
+    expect(
+        net,
+        "",
+        &[("ready", "ready,2"), ("step,2,0,0", "performed,s0,s1,i"), ("ready", "ready,none")],
+    );
+}
+
+/// Sandbox 0 lets an arrival read the ledger at s1. The second column is one
+/// that no agent looks at: binding it takes B rows that are not there.
+#[test]
+fn door_and_wildcards() {
+    expect(
+        "N,4 D,0,s1,r T,s1,s2,s3 L,s0,0 Q,0,accept,1,0 Q,1,nil",
+        "B,u0,s2 A,s1,s2,s3 A,s1,s2,s0 A,s1,s3",
+        &[
+            ("bring Q,0,read,1,s1,!u0,_ Q,1,nil .", "brought,2"),
+            ("bring Q,0,read,1,s1,!u0,!u9 Q,1,nil .", "brought,4"),
+            ("bring Q,0,read,1,s1,_,!u0 Q,1,nil .", "brought,6"),
+            ("bring Q,0,read,1,s1,_,_ Q,1,nil .", "brought,8"),
+            ("bring Q,0,in,1,s1,_,_ Q,1,nil .", "brought,10"),
+            ("bring Q,0,read,1,s1,_,_,_ Q,1,nil .", "brought,12"),
+            ("bring Q,0,out,1,s1,_ Q,1,nil .", "refused,1,1"),
+            ("bring Q,0,read,1,_,s1 Q,1,nil .", "refused,1,1"),
+            ("bring Q,0,read,1,s1,_ Q,1,out,2,s1,u0 Q,2,nil .", "refused,8,0"),
+            ("door,2,0,0", "passes"),
+            ("door,4,0,0", "closed"),
+            ("door,6,0,0", "closed"),
+            ("door,8,0,0", "passes"),
+            ("door,10,0,0", "closed"),
+            ("door,12,0,0", "passes"),
+            ("step,0,0,6", "refused,25,0"),
+            ("step,0,0,2", "performed,s0,s0,a"),
+            ("step,0,0,0", "performed,s0,s1,r"),
+        ],
+    );
+}
+
 /// The door looks into eval bodies, against their own sandbox.
 #[test]
 fn door_and_eval_lines() {

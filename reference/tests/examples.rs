@@ -1,5 +1,6 @@
 //! The nine examples that document 01 marks as proved, the small cases
-//! around them, and the three shares of document 02, No. 7.
+//! around them, and what document 02 says of wildcards (No. 1) and of shares
+//! (No. 7).
 
 mod common;
 use common::*;
@@ -40,6 +41,74 @@ fn shares_to_the_nearest() {
     assert_eq!(listing(net, "E,s0,s1,oia"), expected);
     assert_eq!(listing(&with_root, "E,s0,s3,o"), expected);
     assert_eq!(listing("N,1 R,s0,s0,oire", "E,s0,s0,oir"), "accepted,0 U,s0,4,3,750");
+}
+
+/// What is said of `fields` as a template at s1, by a line of `word`.
+fn judged(word: &str, fields: &str, estimate: &str) -> String {
+    let net = format!("N,4 L,s0,0 Q,0,{word},1,s1,{fields} Q,1,nil");
+    listing(&net, estimate).split(',').next().unwrap().to_string()
+}
+
+/// A wildcard needs no B row, and "binding a spare variable widens the
+/// estimate".
+#[test]
+fn wildcards_ask_for_nothing() {
+    let estimate = "B,u0,s2 A,s1,s2,s3 A,s1,s2,s0";
+    for word in ["in", "read"] {
+        assert_eq!(judged(word, "_,_", estimate), "accepted");
+        assert_eq!(judged(word, "!u0,_", estimate), "accepted");
+        assert_eq!(judged(word, "!u0,!u9", estimate), "broken");
+        assert_eq!(judged(word, "_", "A,s1,s2"), "accepted");
+        assert_eq!(judged(word, "!u9", "A,s1,s2"), "broken");
+    }
+    assert_eq!(
+        judged("in", "!u0,!u9", "B,u0,s2 B,u9,s0 B,u9,s3 A,s1,s2,s3 A,s1,s2,s0"),
+        "accepted"
+    );
+}
+
+/// A wildcard "agrees with any site": each A row, whatever it has there,
+/// asks for the B rows of `!u` beside it.
+#[test]
+fn wildcards_take_every_row() {
+    let estimate = "B,u0,s0 B,u0,s1 B,u0,s2 A,s1,s0,s0 A,s1,s1,s1 A,s1,s2,s2 A,s1,s3,s0";
+    for word in ["in", "read"] {
+        assert_eq!(judged(word, "_,!u0", estimate), "accepted");
+        for site in 0..3 {
+            let less = without(estimate, &format!("B,u0,s{site}"));
+            assert_eq!(judged(word, "_,!u0", &less), "broken");
+        }
+        // The first field of the last row is not among the B rows.
+        assert_eq!(judged(word, "!u0,_", estimate), "broken");
+        assert_eq!(judged(word, "!u0,s0", estimate), "broken");
+        assert_eq!(judged(word, "!u0,s2", estimate), "accepted");
+    }
+}
+
+/// A row at another site, of another number of fields, or with another site
+/// in a field that is named, is not taken.
+#[test]
+fn wildcards_leave_the_rest_as_it_was() {
+    for word in ["in", "read"] {
+        assert_eq!(judged(word, "_,!u0", "A,s1,s2,s3"), "broken");
+        for row in ["A,s0,s2,s3", "A,s1,s2", "A,s1,s2,s3,s0", "A,s1,s2,s3,s0,s0"] {
+            assert_eq!(judged(word, "_,!u0", row), "accepted", "{row}");
+        }
+        assert_eq!(judged(word, "_,!u0,s2", "A,s1,s2,s3,s2"), "broken");
+        assert_eq!(judged(word, "_,!u0,s2", "A,s1,s2,s3,s3"), "accepted");
+        assert_eq!(judged(word, "_,!u0,self", "A,s1,s2,s3,s0"), "broken");
+        assert_eq!(judged(word, "_,!u0,self", "A,s1,s2,s3,s1"), "accepted");
+        assert_eq!(judged(word, "self,_,!u0,_", "A,s1,s0,s3,s3,s3"), "broken");
+        assert_eq!(judged(word, "self,_,!u0,_", "A,s1,s3,s3,s3,s3"), "accepted");
+    }
+}
+
+/// The use map is that of the target; a wildcard adds no right.
+#[test]
+fn wildcards_use_no_right() {
+    let net = "N,3 R,s0,s1,ir L,s0,0 Q,0,in,1,s1,_ Q,1,read,2,s1,_,_ Q,2,nil";
+    let expected = "accepted,0 U,s0,2,2,1000 U,s1,0,0,0 U,s2,0,0,0";
+    assert_eq!(listing(net, "A,s1,s2 A,s1,s2,s0"), expected);
 }
 
 #[test]

@@ -197,6 +197,110 @@ fn templates() {
     assert_eq!(net("N,2 Q,0,in,1,u2,!u2"), "refused,5,0");
 }
 
+/// Where no wildcard may stand, and what is none. "`_` in `out` or as a
+/// target is still 1" (document 02, No. 1).
+const NO_WILDCARDS: &[&str] = &[
+    "N,_",
+    "R,_,s0,o",
+    "R,s0,_,o",
+    "R,s0,s0,_",
+    "D,_,s0,o",
+    "D,0,_,o",
+    "D,0,s0,_",
+    "T,_,s0",
+    "T,s0,_",
+    "T,s0,s0,_",
+    "L,_,0",
+    "L,s0,_",
+    "Q,_,nil",
+    "Q,0,_",
+    "Q,0,rep,_",
+    "Q,0,par,1,_",
+    "Q,0,out,1,s0,_",
+    "Q,0,out,1,s0,s0,_",
+    "Q,0,out,1,_,s0",
+    "Q,0,in,_,s0,s0",
+    "Q,0,in,1,_,s0",
+    "Q,0,in,1,_,_",
+    "Q,0,in,1,_",
+    "Q,0,read,1,_,s0",
+    "Q,0,eval,1,_,2,0",
+    "Q,0,eval,1,s0,_,0",
+    "Q,0,eval,1,s0,2,_",
+    "Q,0,accept,1,_",
+    "B,_,s0",
+    "B,u0,_",
+    "A,_,s0",
+    "A,s0,_",
+    "A,s0,s0,s0,s0,_",
+    "E,_,s0,o",
+    "E,s0,_,o",
+    "E,s0,s0,_",
+    "Q,0,in,1,s0,__",
+    "Q,0,in,1,s0,!_",
+    "Q,0,in,1,s0,_!",
+    "Q,0,in,1,s0,_u0",
+    "Q,0,in,1,s0,_0",
+    "Q,0,in,1,s0, _",
+    "Q,0,in,1,s0,_ ",
+    "Q,0,in,1,s0,s_",
+    "Q,0,in,1,s0,u_",
+    "Q,0,in,1,s0,!u_",
+    "Q,0,in,1,s0,_,",
+    "Q,0,read,1,s0,_,__",
+    "Q,0,read,1,s0,_s0",
+    "Q,0,read,1,s0,_,_,_,_,_",
+    "Q,0,read,1,s0,s0,s0,s0,s0,_",
+    "Q,0,read,1,s0,_,s0,s0,s0,s0",
+    "_",
+    "_,s0",
+];
+
+#[test]
+fn wildcards_out_of_place() {
+    for row in NO_WILDCARDS {
+        assert_eq!(text_listing(&format!("N,1\n{row}\n")), "refused,1,2", "{row:?}");
+        assert_eq!(text_listing(&format!("N,1\n.\n{row}\n")), "refused,1,1", "{row:?}");
+    }
+}
+
+/// "Templates of `in` and `read` get the field `_`"; the row is good, and the
+/// line that it names is absent.
+#[test]
+fn wildcards_in_templates() {
+    let fields = ["_", "_,_", "_,_,_", "_,_,_,_", "!u0,_", "_,!u0", "u0,_", "_,u0", "self,_,s1,_"];
+    for fields in fields.iter().chain(&["_,!u0,_,!u1", "!u0,_,u1", "_,s0", "_,self"]) {
+        for line in ["in", "read"] {
+            assert_eq!(net(&format!("N,2 Q,0,{line},1,u9,{fields}")), "refused,5,0", "{fields}");
+        }
+    }
+}
+
+/// 7 passes over a wildcard, as do 2 and 4: what stands beside it counts.
+#[test]
+fn fields_beside_wildcards() {
+    for line in ["in", "read"] {
+        let template = |fields: &str| net(&format!("N,2 Q,0,{line},1,s1,{fields}"));
+        assert_eq!(template("!u0,_,u0"), "refused,7,2");
+        assert_eq!(template("u0,_,!u0"), "refused,7,2");
+        assert_eq!(template("_,!u0,_,!u0"), "refused,7,2");
+        assert_eq!(template("_,s2"), "refused,4,2");
+        assert_eq!(template("!u0,s2,_,u0"), "refused,4,2");
+        assert_eq!(template("_,u32"), "refused,2,2");
+        assert_eq!(template("!u32,_"), "refused,2,2");
+    }
+}
+
+/// A wildcard "binds nothing", so that it leaves a variable free.
+#[test]
+fn wildcards_bind_nothing() {
+    let lines =
+        |fields: &str| net(&format!("N,2 L,s0,0 Q,0,in,1,s1,{fields} Q,1,out,2,u0,s0 Q,2,nil"));
+    assert_eq!(lines("_"), "refused,8,0");
+    assert_eq!(lines("!u1,_"), "refused,8,0");
+    assert_eq!(lines("!u0,_"), "accepted,1 V,s0,s1,i U,s0,0,0,0 U,s1,0,0,0");
+}
+
 #[test]
 fn bytes_left_over() {
     assert_eq!(text_listing("N,1"), "refused,1,1");

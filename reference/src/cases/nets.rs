@@ -288,7 +288,7 @@ fn choices(rows: &[Tuple], mask: Mask, put: impl Fn(&mut Tuple, Site)) -> Option
 fn close_template(target: Term, fields: &Terms, place: Mask, estimate: &mut Estimate) {
     let sites = flow::reach(target, place, estimate);
     let masks = fields.items.map(|term| match term {
-        Term::Bind(_) => Mask::MAX,
+        Term::Bind(_) | Term::Wildcard => Mask::MAX,
         _ => flow::reach(term, place, estimate),
     });
     for row in estimate.tuples.iter() {

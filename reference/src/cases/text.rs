@@ -70,6 +70,7 @@ fn term(term: Term) -> String {
         Term::Own => "self".to_string(),
         Term::Var(u) => format!("u{}", u.0),
         Term::Bind(u) => format!("!u{}", u.0),
+        Term::Wildcard => "_".to_string(),
     }
 }
 

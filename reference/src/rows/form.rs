@@ -135,15 +135,20 @@ impl Cursor<'_> {
         (rights != 0).then_some(rights)
     }
 
-    /// Site, `self` or variable; also `!u` if `binding`.
-    fn term(&mut self, binding: bool) -> Option<Term> {
+    /// Site, `self` or variable; in a template also `!u` and `_`. "`_` in
+    /// `out` or as a target is still 1."
+    fn term(&mut self, template: bool) -> Option<Term> {
         match self.rest.first()? {
             b's' if self.word(b"self").is_some() => Some(Term::Own),
             b's' => Some(Term::Site(self.site()?)),
             b'u' => Some(Term::Var(self.var()?)),
-            b'!' if binding => {
+            b'!' if template => {
                 self.word(b"!")?;
                 Some(Term::Bind(self.var()?))
+            }
+            b'_' if template => {
+                self.word(b"_")?;
+                Some(Term::Wildcard)
             }
             _ => None,
         }
@@ -177,11 +182,11 @@ impl Cursor<'_> {
     }
 
     /// 1 to 4 fields of an action, to the end of the row.
-    fn terms(&mut self, binding: bool) -> Option<Terms> {
+    fn terms(&mut self, template: bool) -> Option<Terms> {
         let mut terms = Terms::BLANK;
         while !self.rest.is_empty() {
             self.comma()?;
-            *terms.items.get_mut(usize::from(terms.len))? = self.term(binding)?;
+            *terms.items.get_mut(usize::from(terms.len))? = self.term(template)?;
             terms.len += 1;
         }
         (terms.len > 0).then_some(terms)

@@ -161,6 +161,15 @@ pub enum Term {
     Own,
     Var(Var),
     Bind(Var),
+    /// `_`, "which agrees with any site and binds nothing" (document 02, No. 1).
+    Wildcard,
+}
+
+impl Term {
+    /// Whether a template's field agrees with any site, be it bound or not.
+    pub fn takes_any(self) -> bool {
+        matches!(self, Term::Bind(_) | Term::Wildcard)
+    }
 }
 
 /// The 1 to 4 fields of an action; those past `len` are `self`.
