@@ -29,8 +29,10 @@ fn main() -> Outcome<()> {
     let (count, seed): (u64, u64) = (count.parse()?, seed.parse()?);
     let programs = [lotcheck, lotrun].map(PathBuf::from);
     let mut comparison = Comparison { programs, folder: PathBuf::from(folder), agreed: [0; 2] };
-    for (number, case) in stored::fixed(Kind::Listing).iter().enumerate() {
-        comparison.case(Kind::Listing, &format!("fixed-{number}"), case)?;
+    for kind in Kind::ALL {
+        for (number, case) in stored::fixed(kind).iter().enumerate() {
+            comparison.case(kind, &format!("fixed-{number}"), case)?;
+        }
     }
     for (number, case) in long_scripts().iter().enumerate() {
         comparison.case(Kind::Script, &format!("long-{number}"), case)?;

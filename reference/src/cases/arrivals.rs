@@ -1,6 +1,7 @@
 //! Arrivals made to pass the door at a site under a sandbox, as far as the
 //! estimate has rows for it.
 
+use super::process::draws_wildcard;
 use super::rng::Rng;
 use crate::engine::State;
 use crate::rows::*;
@@ -11,13 +12,15 @@ const ACTIONS: [u8; 5] = [OUT, IN, READ, EVAL, ACCEPT];
 pub struct Friendly<'a> {
     pub rng: &'a mut Rng,
     pub state: &'a State,
+    /// Chance that a template's field is a wildcard.
+    wildcards: usize,
     lines: Vec<Line>,
 }
 
 /// Lines numbered from 0 that often pass the door at l under sandbox d.
-pub fn friendly(rng: &mut Rng, state: &State, l: Site, d: usize) -> Vec<Line> {
+pub fn friendly(rng: &mut Rng, state: &State, wildcards: usize, l: Site, d: usize) -> Vec<Line> {
     let allowed = state.net.sandboxes[d].at(l);
-    let mut maker = Friendly { rng, state, lines: vec![] };
+    let mut maker = Friendly { rng, state, wildcards, lines: vec![] };
     if maker.rng.chance(25) {
         maker.lines.push(Line::Rep { next: 1 });
     }
@@ -85,17 +88,7 @@ impl Friendly<'_> {
         let mut fields = Terms { len: row.len, ..Terms::BLANK };
         let mut bound = 0;
         for (at, &field) in row.fields().iter().enumerate() {
-            let fitting = (0..VARS as u8)
-                .map(Var)
-                .find(|u| bound & u.bit() == 0 && estimate.binds[u.index()] & field.bit() != 0);
-            fields.items[at] = match fitting {
-                Some(u) if right != OUT && self.rng.chance(50) => {
-                    bound |= u.bit();
-                    Term::Bind(u)
-                }
-                _ if field == l && self.rng.chance(50) => Term::Own,
-                _ => Term::Site(field),
-            };
+            fields.items[at] = self.field(l, field, right, &mut bound);
         }
         self.lines.push(match right {
             OUT => Line::Out { next, target, fields },
@@ -103,6 +96,26 @@ impl Friendly<'_> {
             _ => Line::Read { next, target, fields },
         });
         bound
+    }
+
+    /// A field at l that agrees with the row's; a variable that it binds is
+    /// added to `bound`.
+    fn field(&mut self, l: Site, field: Site, right: u8, bound: &mut u32) -> Term {
+        if right != OUT && draws_wildcard(self.rng, self.wildcards) {
+            return Term::Wildcard;
+        }
+        let binds = &self.state.estimate.binds;
+        let fitting = (0..VARS as u8)
+            .map(Var)
+            .find(|u| *bound & u.bit() == 0 && binds[u.index()] & field.bit() != 0);
+        match fitting {
+            Some(u) if right != OUT && self.rng.chance(50) => {
+                *bound |= u.bit();
+                Term::Bind(u)
+            }
+            _ if field == l && self.rng.chance(50) => Term::Own,
+            _ => Term::Site(field),
+        }
     }
 
     /// An eval at t, or at a variable, of a body that mostly does what its

@@ -2,7 +2,7 @@
 
 use super::damage::harm_rows;
 use super::listings::assemble;
-use super::nets::{accepted, close, some_rights, LISTING};
+use super::nets::{accepted, close, some_rights, Style, LISTING};
 use super::process::{Maker, PLAIN};
 use super::rng::Rng;
 use super::text::{bytes, estimate_rows, line_row, net_rows, tuple_row, Rows};
@@ -11,8 +11,8 @@ use crate::rows::*;
 
 /// A text one of whose groups has one row too few, just enough, or one row
 /// too many.
-pub fn counts(rng: &mut Rng) -> Vec<u8> {
-    let (mut net, mut estimate) = accepted(rng, &LISTING);
+pub fn counts(rng: &mut Rng, style: &Style) -> Vec<u8> {
+    let (mut net, mut estimate) = accepted(rng, style);
     let n = net.sites;
     let off = rng.weighted(&[25, 40, 35]);
     let less = usize::from(off == 0);
@@ -145,7 +145,7 @@ fn full_rows(rng: &mut Rng) -> (Rows, Rows) {
 
 /// A net of many lines whose variables may be any site: much to be judged,
 /// whether the rules hold or not.
-pub fn wide(rng: &mut Rng) -> Vec<u8> {
+pub fn wide(rng: &mut Rng, wildcards: usize) -> Vec<u8> {
     let mut net = Net::empty();
     net.sites = SITES as u8;
     more_tuples(rng, &mut net.tuples, net.sites, MAX_TUPLES);
@@ -154,8 +154,8 @@ pub fn wide(rng: &mut Rng) -> Vec<u8> {
     let quiet = [4, 20, 10, 0, 20, 20, 30, 10];
     let weights = if rng.chance(70) { quiet } else { PLAIN };
     let (n, max_lines, lines) = (net.sites, MAX_LINES, vec![]);
-    let mut maker =
-        Maker { rng, n, shapes: &shapes, vars: 3, sandboxes: SANDBOXES, weights, lines, max_lines };
+    let (shapes, vars, sandboxes) = (&shapes, 3, SANDBOXES);
+    let mut maker = Maker { rng, n, shapes, vars, sandboxes, weights, wildcards, lines, max_lines };
     while maker.lines.len() < max_lines - 2 && !net.roots.is_full() {
         let site = Site(maker.lines.len() as u8 % n);
         net.roots.push(Root { site, line: maker.grow(0, 0) });

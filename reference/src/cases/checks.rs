@@ -1,21 +1,28 @@
-//! Checks over generated cases: the fast rules against a plain restatement
-//! of document 01, and what accepted nets promise about steps; and shares and
-//! letters against plain restatements of document 02, No. 7 and No. 4.
+//! Checks over generated cases, of which some have wildcards (document 02,
+//! No. 1): the fast rules against a plain restatement of document 01, and what
+//! accepted nets promise about steps; and shares and letters against plain
+//! restatements of No. 7 and No. 4.
 
 use super::damage::drop_row;
 use super::letters::by_number;
 use super::listings;
 use super::nets::{accepted, widen, Style, LISTING};
-use super::process::BUSY;
+use super::process::{template, BUSY};
 use super::rng::Rng;
 use super::scripts;
 use super::text::{bytes, estimate_rows, net_rows};
+use super::wildcards::add_taken_row;
 use crate::engine::{Done, State};
 use crate::flow::{self, Broken};
 use crate::rows::*;
 use crate::{listing, script};
 
-const NETS: u64 = 600;
+pub const NETS: u64 = 600;
+
+/// The style for a seed: with no wildcards, some, or many.
+pub fn varied(seed: u64, style: Style) -> Style {
+    Style { wildcards: [0, 30, 70][(seed / 3 % 3) as usize], ..style }
+}
 
 fn sites(mask: Mask) -> Vec<Site> {
     (0..SITES as u8).map(Site).filter(|s| mask & s.bit() != 0).collect()
@@ -74,7 +81,7 @@ fn plain_template(target: Term, fields: &Terms, here: Mask, estimate: &Estimate)
         let applies = at_target
             && row.len == fields.len
             && pairs().all(|(term, field)| match term {
-                Term::Bind(_) => true,
+                Term::Bind(_) | Term::Wildcard => true,
                 _ => sites(flow::reach(*term, here, estimate)).contains(field),
             });
         !applies
@@ -172,15 +179,17 @@ fn plain_report(net: &Net, estimate: &Estimate) -> Vec<u8> {
 
 #[test]
 fn rules_and_report_agree_with_the_plain_ones() {
-    let (mut broken, mut whole) = (0, 0);
+    let (mut broken, mut whole, mut broken_wildcards) = (0, 0, 0);
     for seed in 0..NETS {
         let rng = &mut Rng::new(seed);
-        let (net, mut estimate) = accepted(rng, &Style { max_lines: 30, ..LISTING });
+        let style = varied(seed, Style { max_lines: 30, ..LISTING });
+        let (net, mut estimate) = accepted(rng, &style);
         if net.lines.len() > 80 {
             continue;
         }
         match seed % 3 {
             0 => drop_row(rng, &mut estimate),
+            1 if style.wildcards > 0 => add_taken_row(rng, &net, &mut estimate),
             1 => widen(rng, &net, &mut estimate),
             _ => {}
         }
@@ -195,9 +204,15 @@ fn rules_and_report_agree_with_the_plain_ones() {
             assert_eq!(report[..], plain_report(&net, &estimate)[..], "seed {seed}");
         } else {
             broken += 1;
+            broken_wildcards += usize::from(line.is_some_and(|q| has_wildcard(&net.lines[q])));
         }
     }
-    assert!(broken > 50 && whole > 100);
+    let counts = (broken, whole, broken_wildcards);
+    assert!(broken > 50 && whole > 100 && broken_wildcards > 10, "{counts:?}");
+}
+
+pub fn has_wildcard(line: &Line) -> bool {
+    template(line).is_some_and(|fields| fields.slice().contains(&Term::Wildcard))
 }
 
 /// For every count of rights held, up to 5 towards each of 32 sites.
@@ -258,11 +273,12 @@ fn door_agrees_with_the_plain_one() {
     let (mut passed, mut closed) = (0, 0);
     for seed in 0..NETS / 6 {
         let rng = &mut Rng::new(seed);
+        let style = varied(seed, style);
         let (net, estimate) = accepted(rng, &style);
         let texts = (bytes(&net_rows(&net)), bytes(&estimate_rows(&estimate)));
         let mut state = State::start(&texts.0, &texts.1).unwrap();
         for _ in 0..4 {
-            scripts::bring_friendly(rng, &mut state);
+            scripts::bring_friendly(rng, &mut state, style.wildcards);
         }
         let mut ends: Vec<usize> =
             state.arrivals.iter().skip(1).map(|arrival| usize::from(arrival.root)).collect();
@@ -283,7 +299,7 @@ fn door_agrees_with_the_plain_one() {
 #[test]
 fn texts_are_read_back() {
     for seed in 0..NETS {
-        let (net, estimate) = accepted(&mut Rng::new(seed), &LISTING);
+        let (net, estimate) = accepted(&mut Rng::new(seed), &varied(seed, LISTING));
         let (mut net_read, mut estimate_read) = (Net::empty(), Estimate::empty());
         let texts = (bytes(&net_rows(&net)), bytes(&estimate_rows(&estimate)));
         let read = flow::read_both(&texts.0, &texts.1, &mut net_read, &mut estimate_read);
@@ -312,13 +328,14 @@ fn forbidden_steps_are_reported() {
     let (mut performed, mut forbidden) = (0, 0);
     for seed in 0..NETS {
         let rng = &mut Rng::new(seed);
+        let style = varied(seed, style);
         let (net, estimate) = accepted(rng, &style);
         let report = flow::report(&net, &estimate, &flow::net_places(&net, &estimate));
         let texts = (bytes(&net_rows(&net)), bytes(&estimate_rows(&estimate)));
         let mut state = State::start(&texts.0, &texts.1).unwrap();
         for turn in 0..120 {
             if turn % 15 == 0 {
-                scripts::bring_friendly(rng, &mut state);
+                scripts::bring_friendly(rng, &mut state, style.wildcards);
             }
             let Some((k, m, r)) = scripts::performing_step(rng, &state, false) else {
                 continue;

@@ -1,5 +1,6 @@
 //! What cases cover: a count for each thing that is seen to happen in them.
 
+use super::cover_wildcards as wildcards;
 use super::required::{required, Wanted};
 use super::shares::is_half;
 use super::Kind;
@@ -84,6 +85,10 @@ impl Watcher {
         self.seen.push(Seen { name: name.into(), row });
     }
 
+    fn wildcards(&mut self, names: Vec<String>) {
+        names.into_iter().for_each(|name| self.note(format!("wildcard: {name}")));
+    }
+
     fn listing(&mut self, case: &[u8]) {
         if case.len().abs_diff(listing::MAX_INPUT) <= 1 {
             self.note(format!("input of {} bytes", case.len()));
@@ -100,24 +105,34 @@ impl Watcher {
             return self.refused("estimate", estimate_text, refusal);
         }
         self.limits(&net, &estimate);
-        let places = net_places(&net, &estimate);
+        self.wildcards(wildcards::taken(&net.lines));
+        self.rules(&net, &estimate);
+    }
+
+    /// The first rule broken, or what an accepted net has.
+    fn rules(&mut self, net: &Net, estimate: &Estimate) {
+        let places = net_places(net, estimate);
         // A line whose target may be several sites.
         let several = |q: usize| match net.lines[q] {
             Line::Out { target, .. }
             | Line::In { target, .. }
             | Line::Read { target, .. }
-            | Line::Eval { target, .. } => reach(target, places[q], &estimate).count_ones() > 1,
+            | Line::Eval { target, .. } => reach(target, places[q], estimate).count_ones() > 1,
             _ => false,
         };
-        match first_broken(&net, &estimate, &places) {
+        match first_broken(net, estimate, &places) {
             Some(Broken::Tuple(_)) => self.note("broken: T"),
-            Some(Broken::Line(q)) => self.line("broken", &net.lines[q], several(q)),
+            Some(Broken::Line(q)) => {
+                self.line("broken", &net.lines[q], several(q));
+                self.wildcards(wildcards::broken(net, estimate, &places, q));
+            }
             None => {
-                self.rights(&report(&net, &estimate, &places));
+                self.rights(&report(net, estimate, &places));
                 for q in (0..net.lines.len()).filter(|&q| several(q)) {
                     self.line("accepted", &net.lines[q], true);
                 }
-                self.shares(&net, &estimate);
+                self.shares(net, estimate);
+                self.wildcards(wildcards::accepted(net, estimate, &places));
             }
         }
     }
@@ -158,10 +173,14 @@ impl Watcher {
     fn refused(&mut self, part: &str, text: &[u8], refusal: Refusal) {
         let Refusal { number, row } = refusal;
         self.note_row(format!("{part}: refused {number}"), row);
+        if part == "net" && number == FREE_VARIABLE && wildcards::lacks_binder(text) {
+            self.note("wildcard: net refused 8, for want of a binder");
+        }
         let rows: Vec<&[u8]> = text.split(|&b| b == b'\n').collect();
         let Some(named) = row.checked_sub(1).and_then(|at| rows.get(at)) else {
             return;
         };
+        self.wildcards(wildcards::refused(part, named, number));
         let Some(&letter) = named.first().filter(|letter| b"NRDTLQBAE".contains(letter)) else {
             return;
         };
@@ -229,16 +248,14 @@ impl Watcher {
         };
         match (name, numbers, &fields[..]) {
             (_, _, ["bad command"]) => self.note("bad command"),
-            ("bring" | "door", _, ["refused", number, _]) => {
-                self.note(format!("{name}: refused {number}"));
-            }
-            ("bring", ..) => self.note("bring: taken"),
-            ("door", ..) => self.note(format!("door: {answer}")),
+            ("bring", ..) => self.bring(before, after, command, &fields),
+            ("door", Some(numbers), _) => self.door(before, numbers, &fields),
             ("ready", _, [_, place]) => {
                 self.note(if *place == "none" { "ready: none" } else { "ready: a place" });
+                self.wildcards(wildcards::ready(before, place));
             }
-            (_, Some([k, _, r]), _) => {
-                self.step(name, before, k, &fields);
+            (_, Some([k, m, r]), _) => {
+                self.step(name, before, [k, m, r], &fields);
                 if fields[0] == "performed" && fields[3] == "a" && !taken_in.insert(r) {
                     self.note("accept: an arrival taken in again");
                 }
@@ -248,7 +265,30 @@ impl Watcher {
         }
     }
 
-    fn step(&mut self, name: &str, before: &State, k: usize, fields: &[&str]) {
+    fn bring(&mut self, before: &State, after: &State, command: &Command, fields: &[&str]) {
+        let (Command::Bring(text), ["refused", number, row]) = (command, fields) else {
+            self.note("bring: taken");
+            return self.wildcards(wildcards::brought(&after.net.lines[before.net.lines.len()..]));
+        };
+        self.note(format!("bring: refused {number}"));
+        let named = row.parse::<usize>().ok().and_then(|row| row.checked_sub(1));
+        let row = named.and_then(|at| text.split(|&b| b == b'\n').nth(at));
+        if let (Some(row), Ok(number)) = (row, number.parse()) {
+            self.wildcards(wildcards::refused("bring", row, number));
+        }
+    }
+
+    fn door(&mut self, before: &State, [r, l, _]: [usize; 3], fields: &[&str]) {
+        if let ["refused", number, _] = fields {
+            return self.note(format!("door: refused {number}"));
+        }
+        self.note(format!("door: {}", fields[0]));
+        self.wildcards(wildcards::door(before, r, l, fields[0]));
+    }
+
+    fn step(&mut self, name: &str, before: &State, choice: [usize; 3], fields: &[&str]) {
+        self.wildcards(wildcards::step(name, before, choice, fields));
+        let [k, ..] = choice;
         let Some(thread) = before.threads.get(k) else {
             return self.note(format!("{name}: refused {}", fields[1]));
         };
@@ -300,7 +340,7 @@ fn rounding(held: u32, used: u32) -> &'static str {
 
 const WORDS: [&str; 8] = ["nil", "par", "rep", "out", "in", "read", "eval", "accept"];
 
-fn word(line: &Line) -> &'static str {
+pub fn word(line: &Line) -> &'static str {
     match line {
         Line::Nil => "nil",
         Line::Par { .. } => "par",

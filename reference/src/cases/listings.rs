@@ -2,22 +2,48 @@
 
 use super::big;
 use super::damage::{drop_row, harm_net, harm_rows};
-use super::nets::{accepted, LISTING};
+use super::nets::{accepted, Style, LISTING};
+use super::process::TEMPLATES;
 use super::rng::Rng;
 use super::shares::{make_halves, FEWEST_SITES};
 use super::text::{bytes, estimate_rows, net_rows, Rows};
+use super::wildcards::{add_taken_row, bind_spare, harm_wildcard, unbind};
 use crate::rows::{Estimate, Net};
 
-/// One input.
+/// How many of a hundred seeds have wildcards.
+const WILDCARD_SEEDS: usize = 12;
+
+/// One input. Whether it has wildcards is drawn last, so that every other
+/// seed keeps its text.
 pub fn case(rng: &mut Rng) -> Vec<u8> {
+    let text = plain(rng);
+    if rng.chance(WILDCARD_SEEDS) {
+        return with_wildcards(rng);
+    }
+    text
+}
+
+fn plain(rng: &mut Rng) -> Vec<u8> {
     match rng.weighted(&[38, 10, 26, 12, 9, 2, 3]) {
-        0 => well_formed(rng, 0),
-        1 => well_formed(rng, 1),
-        2 => damaged_rows(rng),
-        3 => damaged_net(rng),
-        4 => big::counts(rng),
+        0 => well_formed(rng, &LISTING, 0),
+        1 => well_formed(rng, &LISTING, 1),
+        2 => damaged_rows(rng, &LISTING),
+        3 => damaged_net(rng, &LISTING),
+        4 => big::counts(rng, &LISTING),
         5 => big::sizes(rng),
-        _ => big::wide(rng),
+        _ => big::wide(rng, 0),
+    }
+}
+
+fn with_wildcards(rng: &mut Rng) -> Vec<u8> {
+    let style = Style { weights: TEMPLATES, ..LISTING }.with_wildcards(rng);
+    match rng.weighted(&[24, 28, 30, 12, 3, 3]) {
+        0 => well_formed(rng, &style, 0),
+        1 => well_formed(rng, &style, 1),
+        2 => damaged_rows(rng, &style),
+        3 => damaged_net(rng, &style),
+        4 => big::counts(rng, &style),
+        _ => big::wide(rng, style.wildcards),
     }
 }
 
@@ -41,11 +67,11 @@ fn shuffle_groups(rng: &mut Rng, rows: &mut Rows) {
 /// A net with its estimate, from which `drops` or more rows are taken. With
 /// all rows, shares are sometimes made halves: drawn last, so that every
 /// other seed keeps its text.
-fn well_formed(rng: &mut Rng, drops: usize) -> Vec<u8> {
-    let (mut net, mut estimate) = accepted(rng, &LISTING);
+fn well_formed(rng: &mut Rng, style: &Style, drops: usize) -> Vec<u8> {
+    let (mut net, mut estimate) = accepted(rng, style);
     if drops > 0 {
         for _ in 0..rng.between(drops, drops + 1) {
-            drop_row(rng, &mut estimate);
+            break_rule(rng, style, &mut net, &mut estimate);
         }
     }
     let text = written(rng, &net, &estimate);
@@ -54,6 +80,17 @@ fn well_formed(rng: &mut Rng, drops: usize) -> Vec<u8> {
         return written(rng, &net, &estimate);
     }
     text
+}
+
+/// Most often breaks a rule: the estimate loses a row. In nets with wildcards
+/// it may also get an A row that one takes, or a wildcard become a binder.
+fn break_rule(rng: &mut Rng, style: &Style, net: &mut Net, estimate: &mut Estimate) {
+    let ways = if style.wildcards > 0 { rng.weighted(&[20, 60, 20]) } else { 0 };
+    match ways {
+        0 => drop_row(rng, estimate),
+        1 => add_taken_row(rng, net, estimate),
+        _ => bind_spare(rng, &mut net.lines),
+    }
 }
 
 /// The text of a net and an estimate; some groups in another order.
@@ -69,13 +106,17 @@ fn written(rng: &mut Rng, net: &Net, estimate: &Estimate) -> Vec<u8> {
     assemble(&net, &estimate)
 }
 
-fn damaged_rows(rng: &mut Rng) -> Vec<u8> {
-    let (net, estimate) = accepted(rng, &LISTING);
+fn damaged_rows(rng: &mut Rng, style: &Style) -> Vec<u8> {
+    let (net, estimate) = accepted(rng, style);
     let n = net.sites;
     let (mut net, mut estimate) = (net_rows(&net), estimate_rows(&estimate));
     for _ in 0..rng.weighted(&[10, 70, 20]) {
         let rows = if rng.chance(62) { &mut net } else { &mut estimate };
-        harm_rows(rng, rows, n);
+        if style.wildcards > 0 && rng.chance(75) {
+            harm_wildcard(rng, rows, n);
+        } else {
+            harm_rows(rng, rows, n);
+        }
     }
     let mut text = assemble(&net, &estimate);
     if rng.chance(12) {
@@ -102,10 +143,14 @@ fn harm_end(rng: &mut Rng, text: &mut Vec<u8>) {
     }
 }
 
-fn damaged_net(rng: &mut Rng) -> Vec<u8> {
-    let (mut net, estimate) = accepted(rng, &LISTING);
+fn damaged_net(rng: &mut Rng, style: &Style) -> Vec<u8> {
+    let (mut net, estimate) = accepted(rng, style);
     for _ in 0..rng.weighted(&[0, 80, 20]) {
-        harm_net(rng, &mut net);
+        if style.wildcards > 0 && rng.chance(40) {
+            unbind(rng, &mut net.lines);
+        } else {
+            harm_net(rng, &mut net);
+        }
     }
     let n = net.sites;
     let (mut net, mut estimate) = (net_rows(&net), estimate_rows(&estimate));

@@ -4,10 +4,14 @@ mod arrivals;
 mod big;
 #[cfg(test)]
 mod checks;
+#[cfg(test)]
+mod checks_wildcards;
 pub mod cover;
+mod cover_wildcards;
 mod damage;
 pub mod frames;
 pub mod heavy;
+mod ledgers;
 mod letters;
 mod listings;
 mod nets;
@@ -18,6 +22,7 @@ mod scripts;
 mod shares;
 pub mod stored;
 mod text;
+mod wildcards;
 
 use crate::{listing, script};
 use rng::Rng;

@@ -5,6 +5,7 @@ use super::rng::Rng;
 use crate::flow;
 use crate::rows::*;
 
+#[derive(Clone, Copy)]
 pub struct Style {
     pub weights: Weights,
     pub max_lines: usize,
@@ -14,7 +15,13 @@ pub struct Style {
     pub widened: usize,
     /// Random rows for each sandbox at most, taken over all of them.
     pub sandbox_rows: usize,
+    /// How often tuples have 1 to 4 fields.
+    pub lengths: [usize; MAX_FIELDS],
+    /// Chance that a template's field is a wildcard.
+    pub wildcards: usize,
 }
+
+const LENGTHS: [usize; MAX_FIELDS] = [50, 30, 12, 8];
 
 pub const LISTING: Style = Style {
     weights: PLAIN,
@@ -23,11 +30,21 @@ pub const LISTING: Style = Style {
     max_tuples: 8,
     widened: 40,
     sandbox_rows: 2,
+    lengths: LENGTHS,
+    wildcards: 0,
 };
 
 /// Attempts before a net with a small estimate is settled for.
 const ATTEMPTS: usize = 20;
 const FIT_ROUNDS: usize = 5;
+
+impl Style {
+    /// The same with wildcards. Tuples are longer, so that more stands beside
+    /// them; for a whole case they are few, or hardly anything else.
+    pub fn with_wildcards(self, rng: &mut Rng) -> Style {
+        Style { lengths: [18, 34, 28, 20], wildcards: *rng.pick(&[12, 25, 50, 85]), ..self }
+    }
+}
 
 /// A net and an estimate for which all rules hold.
 pub fn accepted(rng: &mut Rng, style: &Style) -> (Net, Estimate) {
@@ -68,7 +85,7 @@ fn shape_net(rng: &mut Rng, style: &Style) -> Net {
     let n = site_count(rng);
     net.sites = n as u8;
     let shape_count = rng.between(1, 5);
-    let shapes: Vec<Tuple> = (0..shape_count).map(|_| shape(rng, n)).collect();
+    let shapes: Vec<Tuple> = (0..shape_count).map(|_| shape_of(rng, n, &style.lengths)).collect();
     let sandboxes = if rng.chance(5) { SANDBOXES } else { rng.between(1, 4) };
     for _ in 0..rng.below(style.sandbox_rows * sandboxes + 1) {
         sandbox_row(rng, &mut net, n, sandboxes);
@@ -92,8 +109,9 @@ fn shape_lines(rng: &mut Rng, style: &Style, net: &mut Net, shapes: &[Tuple], sa
     let count = rng.between(fewest, if large { MAX_ROOTS } else { style.max_roots });
     let homes: Vec<Site> = (0..count).map(|_| Site(rng.below(usize::from(n)) as u8)).collect();
     let shuffled = rng.chance(35);
-    let weights = style.weights;
-    let mut maker = Maker { rng, n, shapes, vars, sandboxes, weights, lines: vec![], max_lines };
+    let Style { weights, wildcards, .. } = *style;
+    let lines = vec![];
+    let mut maker = Maker { rng, n, shapes, vars, sandboxes, weights, wildcards, lines, max_lines };
     let mut roots: Vec<u8> = Vec::new();
     for _ in &homes {
         if maker.lines.len() < MAX_LINES {
@@ -113,7 +131,11 @@ fn shape_lines(rng: &mut Rng, style: &Style, net: &mut Net, shapes: &[Tuple], sa
 }
 
 pub fn shape(rng: &mut Rng, n: usize) -> Tuple {
-    let len = 1 + rng.weighted(&[50, 30, 12, 8]);
+    shape_of(rng, n, &LENGTHS)
+}
+
+fn shape_of(rng: &mut Rng, n: usize, lengths: &[usize]) -> Tuple {
+    let len = 1 + rng.weighted(lengths);
     let mut tuple = Tuple { site: Site(rng.below(n) as u8), len: len as u8, ..Tuple::BLANK };
     for field in &mut tuple.fields[..len] {
         *field = Site(rng.below(n) as u8);

@@ -12,6 +12,8 @@ pub type Weights = [usize; 8];
 
 pub const PLAIN: Weights = [14, 14, 7, 24, 17, 17, 13, 8];
 pub const BUSY: Weights = [4, 16, 12, 20, 20, 20, 12, 14];
+/// More templates, for nets with wildcards.
+pub const TEMPLATES: Weights = [12, 12, 6, 20, 26, 26, 12, 6];
 
 pub struct Maker<'a> {
     pub rng: &'a mut Rng,
@@ -21,6 +23,8 @@ pub struct Maker<'a> {
     pub vars: usize,
     pub sandboxes: usize,
     pub weights: Weights,
+    /// Chance that a template's field is a wildcard.
+    pub wildcards: usize,
     pub lines: Vec<Line>,
     pub max_lines: usize,
 }
@@ -101,6 +105,10 @@ impl Maker<'_> {
         let mut fields = Terms { len: shape.len, ..Terms::BLANK };
         let (mut bound, mut used) = (0u32, 0u32);
         for at in 0..usize::from(shape.len) {
+            if draws_wildcard(self.rng, self.wildcards) {
+                fields.items[at] = Term::Wildcard;
+                continue;
+            }
             let fresh = Var(self.rng.below(self.vars) as u8);
             fields.items[at] = if self.rng.chance(50) && (bound | used) & fresh.bit() == 0 {
                 bound |= fresh.bit();
@@ -130,6 +138,28 @@ impl Maker<'_> {
         let sandbox = self.rng.below(self.sandboxes) as u8;
         let (next, body) = self.two(scope, scope, depth);
         Line::Eval { next, target, body, sandbox }
+    }
+}
+
+/// Where there are to be none, nothing is drawn: cases without wildcards
+/// keep their texts.
+pub fn draws_wildcard(rng: &mut Rng, chance: usize) -> bool {
+    chance > 0 && rng.chance(chance)
+}
+
+/// The template of an `in` or a `read`.
+pub fn template(line: &Line) -> Option<&Terms> {
+    match line {
+        Line::In { fields, .. } | Line::Read { fields, .. } => Some(fields),
+        _ => None,
+    }
+}
+
+/// The same, to be changed.
+pub fn template_mut(line: &mut Line) -> Option<&mut Terms> {
+    match line {
+        Line::In { fields, .. } | Line::Read { fields, .. } => Some(fields),
+        _ => None,
     }
 }
 

@@ -46,6 +46,9 @@ pub fn required(kind: Kind) -> Vec<Wanted> {
             all.extend(
                 (MAX_INPUT - 1..=MAX_INPUT + 1).map(|n| some(format!("input of {n} bytes"))),
             );
+            all.extend(wildcards_read().into_iter().map(wildcard));
+            all.extend(wildcards_refused("net").into_iter().map(wildcard));
+            all.extend(WILDCARD_LISTINGS.map(wildcard));
         }
         Kind::Script => {
             all.extend((BAD_FORM..=FREE_VARIABLE).map(|n| often(format!("bring: refused {n}"))));
@@ -53,10 +56,95 @@ pub fn required(kind: Kind) -> Vec<Wanted> {
             all.extend(["step", "guarded"].into_iter().flat_map(steps));
             let lines = ["out", "in", "read", "eval", "accept"];
             all.extend(lines.map(|line| often(format!("guarded {line}: refused 26"))));
+            let read = wildcards_read().into_iter();
+            all.extend(read.map(|what| wildcard(format!("{what}, performed"))));
+            all.extend(wildcards_refused("bring").into_iter().map(wildcard));
+            all.extend(WILDCARD_SCRIPTS.map(wildcard));
         }
     }
     all
 }
+
+fn wildcard(name: impl Into<String>) -> Wanted {
+    often(format!("wildcard: {}", name.into()))
+}
+
+/// Templates with wildcards: at each place, as many, beside what.
+fn wildcards_read() -> Vec<String> {
+    let mut all = Vec::new();
+    for count in 1..=MAX_FIELDS {
+        all.extend(["in", "read"].map(|line| format!("field {count} of {line}")));
+        all.push(format!("{count} in one template"));
+        all.push(format!("nothing else in {count} fields"));
+    }
+    all.extend(["!u", "a site", "self", "a variable"].map(|what| format!("beside {what}")));
+    all
+}
+
+/// Wildcards where none may stand, what is none, and what is refused beside
+/// them.
+fn wildcards_refused(part: &str) -> Vec<String> {
+    let refused_1 = |what: String| format!("{part} refused 1, {what}");
+    let mut all = vec![refused_1("_ in out".to_string()), refused_1("five fields".to_string())];
+    for line in ["out", "in", "read", "eval"] {
+        all.push(refused_1(format!("_ as the target of {line}")));
+    }
+    for line in ["in", "read"] {
+        all.extend(["__", "!_"].map(|word| refused_1(format!("{word} in {line}"))));
+    }
+    all.extend(
+        [OVER_LIMIT, NO_SITE, BAD_TEMPLATE].map(|n| format!("{part} refused {n}, beside _")),
+    );
+    all
+}
+
+const WILDCARD_LISTINGS: [&str; 18] = [
+    "net refused 1, _ in N",
+    "net refused 1, _ in R",
+    "net refused 1, _ in D",
+    "net refused 1, _ in T",
+    "net refused 1, _ in L",
+    "net refused 1, _ as a number of Q",
+    "estimate refused 1, _ in B",
+    "estimate refused 1, _ in A",
+    "estimate refused 1, _ in E",
+    "net refused 8, for want of a binder",
+    "broken in, beside !u",
+    "broken read, beside !u",
+    "broken in, holds with self there",
+    "broken read, holds with self there",
+    "accepted in, a spare variable breaks it",
+    "accepted read, a spare variable breaks it",
+    "accepted in, rows of another length break it",
+    "accepted read, rows of another length break it",
+];
+
+const WILDCARD_SCRIPTS: [&str; 24] = [
+    "step in performed",
+    "step read performed",
+    "guarded in performed",
+    "guarded read performed",
+    "in refused 23, elsewhere",
+    "read refused 23, elsewhere",
+    "in refused 23, another number of fields",
+    "read refused 23, another number of fields",
+    "in refused 23, a field disagrees",
+    "read refused 23, a field disagrees",
+    "in refused 26",
+    "read refused 26",
+    "!u there would replace a binding, performed",
+    "another line has !u there, performed",
+    "brought in in",
+    "brought in read",
+    "door passes",
+    "door closed",
+    "door passes, a spare variable closes it",
+    "door closed, for a template with _",
+    "accept performed",
+    "accept refused 25",
+    "ready finds it",
+    "ready passes over it",
+];
 
 /// Every set of rights but the empty one, which has no V row.
 fn printed() -> impl Iterator<Item = Wanted> {

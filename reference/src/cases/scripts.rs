@@ -3,10 +3,11 @@
 
 use super::arrivals::friendly;
 use super::damage::{harm_lines, harm_rows, swap_child};
-use super::nets::{accepted, close, shape, Style};
+use super::nets::{accepted, close, shape, Style, LISTING};
 use super::process::{Maker, BUSY, PLAIN};
 use super::rng::Rng;
 use super::text::{arrival_rows, bytes, estimate_rows, net_rows, Rows};
+use super::wildcards::{add_twins, harm_wildcard, unbind};
 use crate::engine::{Done, State, MAX_THREADS};
 use crate::rows::*;
 
@@ -17,7 +18,11 @@ const STYLE: Style = Style {
     max_tuples: 9,
     widened: 80,
     sandbox_rows: 6,
+    ..LISTING
 };
+
+/// How many of a hundred seeds have wildcards.
+const WILDCARD_SEEDS: usize = 14;
 
 const ODD_COMMANDS: &[&str] = &[
     "",
@@ -56,11 +61,24 @@ enum Aim {
     FullTuples,
 }
 
-/// One input.
+/// One input. Whether it has wildcards is drawn last, so that every other
+/// seed keeps its text.
 pub fn case(rng: &mut Rng) -> Vec<u8> {
+    let text = of_style(rng, &STYLE);
+    if rng.chance(WILDCARD_SEEDS) {
+        let style = STYLE.with_wildcards(rng);
+        return of_style(rng, &style);
+    }
+    text
+}
+
+fn of_style(rng: &mut Rng, style: &Style) -> Vec<u8> {
     let aim = *rng.pick(&[Aim::Plain, Aim::Plain, Aim::Plain, Aim::FullThreads, Aim::FullTuples]);
-    let (mut net, mut estimate) = accepted(rng, &STYLE);
+    let (mut net, mut estimate) = accepted(rng, style);
     prepare(rng, aim, &mut net, &mut estimate);
+    if style.wildcards > 0 && rng.chance(60) {
+        add_twins(rng, &mut net, &mut estimate);
+    }
     let (mut net_text, mut estimate_text) = (net_rows(&net), estimate_rows(&estimate));
     if rng.chance(4) {
         let text = if rng.chance(50) { &mut net_text } else { &mut estimate_text };
@@ -69,7 +87,7 @@ pub fn case(rng: &mut Rng) -> Vec<u8> {
     let (net_text, estimate_text) = (bytes(&net_text), bytes(&estimate_text));
     let mut text = [&net_text[..], b".\n", &estimate_text[..], b".\n"].concat();
     let commands = match State::start(&net_text, &estimate_text) {
-        Ok(state) => Writer { rng, state, text: vec![] }.write(aim),
+        Ok(state) => Writer { rng, state, wildcards: style.wildcards, text: vec![] }.write(aim),
         Err(_) => b"ready\nstep,0,0,0\n".to_vec(),
     };
     text.extend_from_slice(&commands);
@@ -107,6 +125,8 @@ fn prepare(rng: &mut Rng, aim: Aim, net: &mut Net, estimate: &mut Estimate) {
 struct Writer<'a> {
     rng: &'a mut Rng,
     state: State,
+    /// Chance that a field of an arrival's template is a wildcard.
+    wildcards: usize,
     text: Vec<u8>,
 }
 
@@ -211,7 +231,7 @@ impl Writer<'_> {
 
     fn bring(&mut self) {
         let mut rows = match self.rng.weighted(&[50, 20, 28, 2]) {
-            0 => friendly_rows(self.rng, &self.state),
+            0 => friendly_rows(self.rng, &self.state, self.wildcards),
             1 => arrival_rows(&self.stranger()),
             2 => self.damaged_rows(),
             _ => vec![],
@@ -235,7 +255,7 @@ impl Writer<'_> {
         let mut shapes = self.state.estimate.tuples.to_vec();
         shapes.push(shape(self.rng, usize::from(n)));
         let max_lines = self.rng.between(1, 16);
-        let (weights, lines) = (PLAIN, vec![]);
+        let (weights, wildcards, lines) = (PLAIN, self.wildcards, vec![]);
         let mut maker = Maker {
             rng: self.rng,
             n,
@@ -243,6 +263,7 @@ impl Writer<'_> {
             vars: 4,
             sandboxes: 4,
             weights,
+            wildcards,
             lines,
             max_lines,
         };
@@ -252,6 +273,9 @@ impl Writer<'_> {
 
     fn damaged_rows(&mut self) -> Rows {
         let mut lines = self.stranger();
+        if self.wildcards > 0 && self.rng.chance(65) {
+            return harm_templates(self.rng, lines, self.state.net.sites);
+        }
         match self.rng.weighted(&[35, 25, 4, 36]) {
             0 => harm_lines(self.rng, &mut lines),
             1 => swap_child(self.rng, &mut lines),
@@ -364,11 +388,11 @@ fn doorway(rng: &mut Rng, state: &State) -> (Site, usize) {
 }
 
 /// An arrival that passes the door somewhere, if one is found.
-fn friendly_rows(rng: &mut Rng, state: &State) -> Rows {
+fn friendly_rows(rng: &mut Rng, state: &State, wildcards: usize) -> Rows {
     let (l, d) = doorway(rng, state);
     let mut rows = arrival_rows(&[Line::Nil]);
     for _ in 0..ATTEMPTS {
-        rows = arrival_rows(&friendly(rng, state, l, d));
+        rows = arrival_rows(&friendly(rng, state, wildcards, l, d));
         let mut trial = state.clone();
         if let Ok(root) = trial.bring(&bytes(&rows)) {
             let passes = trial.door(usize::from(root), l.index(), d) == Ok(true);
@@ -380,9 +404,20 @@ fn friendly_rows(rng: &mut Rng, state: &State) -> Rows {
     rows
 }
 
+/// An arrival with a wildcard out of place, or one that ought to bind.
+fn harm_templates(rng: &mut Rng, mut lines: Vec<Line>, n: u8) -> Rows {
+    if rng.chance(25) {
+        unbind(rng, &mut lines);
+        return arrival_rows(&lines);
+    }
+    let mut rows = arrival_rows(&lines);
+    harm_wildcard(rng, &mut rows, n);
+    rows
+}
+
 #[cfg(test)]
-pub fn bring_friendly(rng: &mut Rng, state: &mut State) {
-    let rows = friendly_rows(rng, state);
+pub fn bring_friendly(rng: &mut Rng, state: &mut State, wildcards: usize) {
+    let rows = friendly_rows(rng, state, wildcards);
     let _ = state.bring(&bytes(&rows));
 }
 

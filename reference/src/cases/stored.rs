@@ -1,9 +1,10 @@
 //! The cases of the stored runs: those of documents 01 and 02, those that print
-//! every set of rights but the empty one, and such seeds that every thing which
-//! can be seen in a case is seen several times.
+//! every set of rights but the empty one, those about a ledger's columns, and
+//! such seeds that every thing which can be seen in a case is seen several times.
 
 use super::cover::{seen, Cover, Seen};
 use super::heavy::{ESTIMATE, NET};
+use super::ledgers;
 use super::letters::every_set;
 use super::Kind;
 use std::collections::BTreeMap;
@@ -48,7 +49,7 @@ const SMALL: [&str; 16] = [
     "N,1\n.\nB,u0,s0",
 ];
 
-/// Document 02's own cases: 1 of 16, 3 of 16, 3 of 4 (No. 7).
+/// The shares that document 02, No. 7, names: 1 of 16, 3 of 16, 3 of 4.
 const SHARES: [&str; 3] = [
     "N,4\nR,s0,s0,oirea\nR,s0,s1,oirea\nR,s0,s2,oirea\nR,s0,s3,o\n.\nE,s0,s3,o\n",
     "N,4\nR,s0,s0,oirea\nR,s0,s1,oirea\nR,s0,s2,oirea\nR,s0,s3,o\n.\nE,s0,s1,oia\n",
@@ -67,16 +68,21 @@ fn march_listings() -> Vec<String> {
 fn fixed_listings() -> Vec<Vec<u8>> {
     let mut texts = march_listings();
     texts.extend(SHARES.map(String::from));
-    let mut cases: Vec<Vec<u8>> = texts.into_iter().map(String::into_bytes).collect();
+    let mut cases = as_bytes(texts);
     cases.extend(every_set());
+    cases.extend(as_bytes(ledgers::listings()));
     cases
+}
+
+fn as_bytes(texts: Vec<String>) -> Vec<Vec<u8>> {
+    texts.into_iter().map(String::into_bytes).collect()
 }
 
 /// The cases that a kind begins with.
 pub fn fixed(kind: Kind) -> Vec<Vec<u8>> {
     match kind {
         Kind::Listing => fixed_listings(),
-        Kind::Script => vec![],
+        Kind::Script => as_bytes(ledgers::scripts()),
     }
 }
 
