@@ -140,6 +140,24 @@ fn wide_accepts() -> Heavy {
     open_net("252 accepts at 32 sites", &lines)
 }
 
+/// 255 lines with one template at s0, where 256 A rows have four fields each.
+fn readers(name: &'static str, template: &str, binds: String) -> Heavy {
+    let mut lines: Vec<String> =
+        (1..256).map(|next| format!("read,{next},s0,{template}")).collect();
+    lines.push("nil".to_string());
+    let rows = pairs(16, 16, |a, b| format!("A,s0,s{a},s{},s{b},s{}\n", a + 16, b + 16));
+    Heavy::new(name, format!("N,32\nL,s30,0\n{}", numbered(&lines)), binds + &rows)
+}
+
+/// The same lines with wildcards, with binders, and with both.
+fn reading() -> [Heavy; 3] {
+    [
+        readers("255 reads, four wildcards each", "_,_,_,_", String::new()),
+        readers("255 reads, three wildcards and !u0", "_,_,_,!u0", binds(&[SITES])),
+        readers("255 reads, four binders each", "!u0,!u1,!u2,!u3", binds(&[SITES; 4])),
+    ]
+}
+
 /// T and A rows that differ only in their last fields.
 fn alike() -> Heavy {
     let rows = |letter: char| pairs(16, 16, |a, b| format!("{letter},s0,s0,s0,s{a},s{b}\n"));
@@ -201,7 +219,7 @@ pub fn checks() -> Vec<Heavy> {
     let rows = four_by_four('A');
     let outs = |next: usize| format!("out,{next},{fields}");
     let ins = |next: usize| format!("in,{next},u0,u1,u2,!u3,!u4");
-    vec![
+    let mut all = vec![
         march(),
         large(),
         full(),
@@ -214,7 +232,9 @@ pub fn checks() -> Vec<Heavy> {
         wide_accepts(),
         alike(),
         all_rights(),
-    ]
+    ];
+    all.extend(reading());
+    all
 }
 
 /// Every home policy has all 160 rights, and every share is a half: 34 of
@@ -244,9 +264,14 @@ pub fn halves() -> Heavy {
 /// place 20 a thread `rep` over the lines given, which are numbered from 41
 /// on. A child of it stands at place 21.
 fn cycle(name: &'static str, lines: &[&str], choices: &[[u8; 3]]) -> Heavy {
+    cycle_over(name, "", lines, choices)
+}
+
+/// The same, with `more` behind the three fields of each tuple.
+fn cycle_over(name: &'static str, more: &str, lines: &[&str], choices: &[[u8; 3]]) -> Heavy {
     let mut net = "N,8\nR,s1,s0,r\nR,s1,s2,oire\nD,0,s0,r\n".to_string();
     net += &(0..100)
-        .map(|i| format!("T,s0,s{},s{},s{}\n", i / 25, i / 5 % 5, i % 5))
+        .map(|i| format!("T,s0,s{},s{},s{}{more}\n", i / 25, i / 5 % 5, i % 5))
         .collect::<String>();
     net += &(0..20).map(|i| format!("L,s{},{}\n", i % 8, 2 * i)).collect::<String>();
     net += "L,s1,40\n";
@@ -268,6 +293,18 @@ pub fn cycles() -> Vec<Heavy> {
         cycle("rep, par", &["par,42,43", "nil", "nil"], &[rep, next]),
         cycle("rep, eval", &["eval,42,s2,43,0", "nil", "nil"], &[rep, next]),
         cycle("rep, read", &["read,42,s0,!u1,!u2,!u3", "nil"], &[rep, some]),
+        cycle_over(
+            "rep, read of four wildcards",
+            ",s6",
+            &["read,42,s0,_,_,_,_", "nil"],
+            &[rep, some],
+        ),
+        cycle_over(
+            "rep, read of four binders",
+            ",s6",
+            &["read,42,s0,!u1,!u2,!u3,!u4", "nil"],
+            &[rep, some],
+        ),
         cycle("rep, out, in", &[out, "in,43,s2,s3,!u2", "nil"], &[rep, next, last]),
         mixed(),
         cycle("rep, accept, read", &["accept,42,0", "nil"], &[rep, [21, 0, 43], some])
@@ -336,6 +373,28 @@ pub fn closed_doors() -> Heavy {
     heavy.with_arrival(long_arrival(250, false)).with_choices(&choices)
 }
 
+/// 63 threads wait on one template, and each of 256 tuples agrees with it in
+/// all fields but the last.
+fn waits(name: &'static str, template: &str) -> Heavy {
+    let tuples = pairs(16, 16, |a, b| format!("T,s0,s{a},s{b},s{},s30\n", (a + b) % 32));
+    let roots: String = (0..63).map(|i| format!("L,s{},{}\n", i % SITES, 2 * i)).collect();
+    let wait_or_nil = |q: usize| match q % 2 {
+        0 => format!("in,{},s0,{template}", q + 1),
+        _ => "nil".to_string(),
+    };
+    let lines: Vec<String> = (0..126).map(wait_or_nil).collect();
+    let net = format!("N,32\n{tuples}{roots}{}", numbered(&lines));
+    // The step before the question is refused.
+    Heavy::new(name, net, String::new()).with_choices(&[[0, 255, 0]])
+}
+
+pub fn waiting() -> [Heavy; 2] {
+    [
+        waits("63 waits, wildcards, 256 tuples", "_,_,_,s31"),
+        waits("63 waits, binders, 256 tuples", "!u0,!u1,!u2,s31"),
+    ]
+}
+
 /// A thread on accept, and an arrival of 254 lines that it is asked to take.
 pub fn arrived(passes: bool) -> Heavy {
     let (sandbox, _) = open_sandbox();
@@ -351,7 +410,9 @@ pub fn all() -> Vec<Heavy> {
     all.extend(mixed_sets().into_iter().take(1));
     all.push(halves());
     all.extend(cycles());
-    all.extend([closed_doors(), arrived(false), arrived(true)]);
+    all.push(closed_doors());
+    all.extend(waiting());
+    all.extend([arrived(false), arrived(true)]);
     all
 }
 
@@ -367,7 +428,7 @@ mod tests {
     use super::super::shares::is_half;
     use super::*;
     use crate::engine::State;
-    use crate::flow::{check, Answer};
+    use crate::flow::{check, Answer, Broken};
     use crate::listing;
 
     #[test]
@@ -430,6 +491,40 @@ mod tests {
                 state.guarded_step(k, m, r).or_else(|_| state.step(k, m, r)).unwrap();
             }
             assert_eq!(state, first, "{}", heavy.name);
+        }
+    }
+
+    /// The last field of a tuple made another, the first thread is ready.
+    #[test]
+    fn waiting_threads_fail_at_the_last_field() {
+        for heavy in waiting() {
+            let state = begun(&heavy);
+            assert_eq!((state.threads.len(), state.tuples.len()), (63, 256));
+            assert_eq!(state.ready(), None);
+            let text = String::from_utf8(heavy.net).unwrap();
+            for row in text.lines().filter(|row| row.starts_with("T,")) {
+                let last = row.replace(",s30", ",s31");
+                let other = text.replace(&format!("{row}\n"), &format!("{last}\n"));
+                assert_eq!(State::start(other.as_bytes(), b"").unwrap().ready(), Some(0), "{row}");
+            }
+        }
+    }
+
+    /// Each A row is taken by each template: with u0 to u3 unbound somewhere, a
+    /// binder breaks the rule and a wildcard does not.
+    #[test]
+    fn readers_take_every_row() {
+        let estimate = |heavy: &Heavy| String::from_utf8(heavy.estimate.clone()).unwrap();
+        let check = |net: &[u8], estimate: &str| check(net, estimate.as_bytes(), &mut [0; 1024]);
+        let [wildcards, both, binders] = reading();
+        assert_eq!(estimate(&wildcards).lines().count(), 256);
+        assert!(!estimate(&wildcards).contains('B'));
+        for (heavy, row) in
+            [(&both, "B,u0,s31\n"), (&binders, "B,u0,s15\n"), (&binders, "B,u3,s31\n")]
+        {
+            let less = estimate(heavy).replace(row, "");
+            assert_eq!(check(&heavy.net, &less), Answer::Broken(Broken::Line(0)), "{row}");
+            assert_eq!(check(&wildcards.net, &less), Answer::Accepted, "{row}");
         }
     }
 

@@ -200,7 +200,7 @@ fn door_job(heavy: &Heavy, at: [u8; 3]) -> Job<'_> {
 
 fn jobs<'a>(inputs: &'a Inputs) -> Vec<Job<'a>> {
     let Inputs { march, large, halves, checks, mixed_sets, .. } = inputs;
-    let Inputs { cycles, refusals, mixed, closed, arrived, .. } = inputs;
+    let Inputs { cycles, refusals, mixed, closed, waiting, arrived, .. } = inputs;
     let texts = || checks.iter().map(from_ref).chain([&mixed_sets[..]]);
     let mut jobs: Vec<Job> = texts().map(check_job).collect();
     jobs.extend(texts().map(read_job));
@@ -214,8 +214,8 @@ fn jobs<'a>(inputs: &'a Inputs) -> Vec<Job<'a>> {
     jobs.push(pair("step", &arrived[0], ours::steps, steps));
     let guarded = |heavy, n| theirs::steps(heavy, true, n);
     jobs.push(pair("guarded step", mixed, ours::guarded_steps, guarded));
-    jobs.push(pair("ready", mixed, ours::ready, theirs::ready));
-    jobs.push(pair("ready", closed, ours::ready, theirs::ready));
+    let asked = [mixed, closed].into_iter().chain(waiting);
+    jobs.extend(asked.map(|heavy| pair("ready", heavy, ours::ready, theirs::ready)));
     jobs.extend(
         cycles.iter().filter(|heavy| !heavy.arrival.is_empty()).map(|h| door_job(h, [43, 1, 0])),
     );
@@ -234,6 +234,7 @@ struct Inputs {
     refusals: Vec<Heavy>,
     mixed: Heavy,
     closed: Heavy,
+    waiting: [Heavy; 2],
     arrived: [Heavy; 2],
 }
 
@@ -248,6 +249,7 @@ fn main() {
         refusals: heavy::refusals(),
         mixed: heavy::mixed(),
         closed: heavy::closed_doors(),
+        waiting: heavy::waiting(),
         arrived: [heavy::arrived(false), heavy::arrived(true)],
     };
     println!("Microseconds of processor time for a call: the median of {ROUNDS} rounds, both sides in turn.");
