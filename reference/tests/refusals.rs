@@ -213,7 +213,6 @@ const NO_WILDCARDS: &[&str] = &[
     "L,_,0",
     "L,s0,_",
     "Q,_,nil",
-    "Q,0,_",
     "Q,0,rep,_",
     "Q,0,par,1,_",
     "Q,0,out,1,s0,_",
@@ -222,7 +221,6 @@ const NO_WILDCARDS: &[&str] = &[
     "Q,0,in,_,s0,s0",
     "Q,0,in,1,_,s0",
     "Q,0,in,1,_,_",
-    "Q,0,in,1,_",
     "Q,0,read,1,_,s0",
     "Q,0,eval,1,_,2,0",
     "Q,0,eval,1,s0,_,0",
@@ -252,8 +250,6 @@ const NO_WILDCARDS: &[&str] = &[
     "Q,0,read,1,s0,_,_,_,_,_",
     "Q,0,read,1,s0,s0,s0,s0,s0,_",
     "Q,0,read,1,s0,_,s0,s0,s0,s0",
-    "_",
-    "_,s0",
 ];
 
 #[test]

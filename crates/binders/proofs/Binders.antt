@@ -16,6 +16,7 @@ use Rattle.klaim.specs.declared.Slot.{Slot}
 use Rattle.klaim.specs.declared.Slot.the-variants.{Value, Wildcard}
 use Rattle.text.specs.declared.Name.{Name}
 use Rattle.text.specs.Fields.{upTo, loc, slot}
+use Rattle.text.proofs.Names.{by-kind}
 use Rattle.lines.specs.declared.Four.{Four}
 use Rattle.lines.specs.declared.LineData.{LineData}
 use Rattle.lines.specs.Lines.{names, lineOf, getKind}
@@ -42,16 +43,15 @@ first-sum p f = go (f .count) refl
 -- a variable in one name
 count-name : (u : ℕ) (m : Name) → upTo 5 m ≡ true → count u (usedIn (slot m)) + count u (boundIn (slot m)) ≡ hits u m
 unfolding upTo slot loc usedIn boundIn hits count keep _&_
-count-name u m p = go (m .kind) refl (leb-true 1 (m .kind) (and-l (leb 1 (m .kind)) (leb (m .kind) 5) p)) (leb-true (m .kind) 5 (and-r (leb 1 (m .kind)) (leb (m .kind) 5) p))
-  where
-    go : (k : ℕ) → m .kind ≡ k → 1 ≤ m .kind → m .kind ≤ 5 → count u (usedIn (slot m)) + count u (boundIn (slot m)) ≡ hits u m
-    go zero e l h = absurd (omega arith)
-    go (suc zero) e l h = rw e
-    go (suc (suc zero)) e l h = rw e
-    go (suc (suc (suc zero))) e l h = rw (e, ← count-one u (m .number)) (omega arith)
-    go (suc (suc (suc (suc zero)))) e l h = rw (e, ← count-one u (m .number)) (omega arith)
-    go (suc (suc (suc (suc (suc zero))))) e l h = rw e
-    go (suc (suc (suc (suc (suc (suc k)))))) e l h = absurd (omega arith)
+count-name u m p =
+    by-kind
+    m
+    p
+    (λ e. rw e)
+    (λ e. rw e)
+    (λ e. rw (e, ← count-one u (m .number)) (omega arith))
+    (λ e. rw (e, ← count-one u (m .number)) (omega arith))
+    (λ e. rw e)
 
 -- a variable in the fields
 count-names : (u : ℕ) (ms : List Name) → all (upTo 5) ms ≡ true → count u (concat usedIn (map slot ms)) + count u (concat boundIn (map slot ms)) ≡ sum (hits u) ms

@@ -13,6 +13,7 @@ use Rattle.sets.specs.Lists.{either, all}
 use Rattle.sets.proofs.Lists.{and-l, and-r}
 use Rattle.text.specs.declared.Name.{Name}
 use Rattle.text.specs.Fields.{noNumber, upTo, loc, slot}
+use Rattle.text.proofs.Names.{by-kind}
 use Rattle.lines.specs.declared.Four.{Four}
 use Rattle.lines.specs.Lines.{names, present}
 use Rattle.judge.specs.Judge.{lowNumber, lowName}
@@ -43,31 +44,31 @@ name-number m p a b h = ltb-true (m .number) 32 (rw (ne-eqb (m .kind) 0 a, ne-eq
 
 pub slot-code : (m : Name) → upTo 5 m ≡ true → lowName 4 32 m ≡ true → slotOf (codeOf m) ≡ slot m
 unfolding upTo slotOf locOf codeOf slot loc
-slot-code m p q = go (m .kind) refl (leb-true 1 (m .kind) (and-l _ _ p)) (leb-true (m .kind) 5 (and-r _ _ p))
+slot-code m p q = by-kind m p site (λ e. rw e) variable binder (λ e. rw e)
   where
-    go : (k : ℕ) → m .kind ≡ k → 1 ≤ m .kind → m .kind ≤ 5 → slotOf (codeOf m) ≡ slot m
-    go zero e l h = absurd (omega arith)
-    go (suc zero) e l h =
+    site : m .kind ≡ 1 → slotOf (codeOf m) ≡ slot m
+    site e =
         let g = name-number m q (λ z. omega arith) (λ z. omega arith) (omega arith) in
         let w : eqb (m .number % 32) 128 ≡ false = ne-eqb (m .number % 32) 128 (λ z. omega arith) in
         let s : m .number % 32 / 32 % 4 ≡ 0 = omega arith in
         let n : m .number % 32 % 32 ≡ m .number = omega arith in
         rw (e, w, s, n)
-    go (suc (suc zero)) e l h = rw e
-    go (suc (suc (suc zero))) e l h =
+
+    variable : m .kind ≡ 3 → slotOf (codeOf m) ≡ slot m
+    variable e =
         let g = name-number m q (λ z. omega arith) (λ z. omega arith) (omega arith) in
         let w : eqb (64 + m .number % 32) 128 ≡ false = ne-eqb (64 + m .number % 32) 128 (λ z. omega arith) in
         let s : (64 + m .number % 32) / 32 % 4 ≡ 2 = omega arith in
         let n : (64 + m .number % 32) % 32 ≡ m .number = omega arith in
         rw (e, w, s, n)
-    go (suc (suc (suc (suc zero)))) e l h =
+
+    binder : m .kind ≡ 4 → slotOf (codeOf m) ≡ slot m
+    binder e =
         let g = name-number m q (λ z. omega arith) (λ z. omega arith) (omega arith) in
         let w : eqb (96 + m .number % 32) 128 ≡ false = ne-eqb (96 + m .number % 32) 128 (λ z. omega arith) in
         let s : (96 + m .number % 32) / 32 % 4 ≡ 3 = omega arith in
         let n : (96 + m .number % 32) % 32 ≡ m .number = omega arith in
         rw (e, w, s, n)
-    go (suc (suc (suc (suc (suc zero))))) e l h = rw e
-    go (suc (suc (suc (suc (suc (suc k)))))) e l h = absurd (omega arith)
 
 pub loc-code : (m : Name) → upTo 3 m ≡ true → lowName 4 32 m ≡ true → locOf (codeOf m) ≡ loc m
 unfolding upTo locOf codeOf loc

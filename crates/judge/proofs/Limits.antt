@@ -17,6 +17,7 @@ use Rattle.klaim.specs.Rows.{rowLine, groupN, groupD, groupL, groupQ}
 use Rattle.klaim.specs.Reader.{inLimits, absent}
 use Rattle.text.specs.declared.Name.{Name}
 use Rattle.text.specs.Fields.{noNumber, upTo, loc, slot, sitesTo}
+use Rattle.text.proofs.Names.{by-kind}
 use Rattle.lines.specs.declared.LineData.{LineData}
 use Rattle.lines.specs.Lines.{names, present, lineOf, lineShape, lineGood}
 use Rattle.forms.specs.declared.RowData.{RowData}
@@ -42,16 +43,7 @@ under n k = ltb k n
 
 low-site : (n : ℕ) (m : Name) → upTo 5 m ≡ true → all (under n) (sitesIn (slot m)) ≡ lowName 1 n m
 unfolding lowName upTo slot loc sitesIn all either
-low-site n m p = go (m .kind) refl (leb-true 1 (m .kind) (and-l _ _ p)) (leb-true (m .kind) 5 (and-r _ _ p))
-  where
-    go : (k : ℕ) → m .kind ≡ k → 1 ≤ m .kind → m .kind ≤ 5 → all (under n) (sitesIn (slot m)) ≡ lowName 1 n m
-    go zero e l h = absurd (omega arith)
-    go (suc zero) e l h = rw e (and-true (ltb (m .number) n))
-    go (suc (suc zero)) e l h = rw e
-    go (suc (suc (suc zero))) e l h = rw e
-    go (suc (suc (suc (suc zero)))) e l h = rw e
-    go (suc (suc (suc (suc (suc zero))))) e l h = rw e
-    go (suc (suc (suc (suc (suc (suc k)))))) e l h = absurd (omega arith)
+low-site n m p = by-kind m p (λ e. rw e (and-true (ltb (m .number) n))) (λ e. rw e) (λ e. rw e) (λ e. rw e) (λ e. rw e)
 
 -- the variables and the sites of a field
 abbrev lowSlot : ℕ → Slot → Bool
@@ -59,16 +51,15 @@ lowSlot n s = (all (under n) (usedIn s) & all (under n) (boundIn s)) & all (unde
 
 low-slot : (n : ℕ) (m : Name) → upTo 5 m ≡ true → lowSlot n (slot m) ≡ lowName 4 n m
 unfolding lowName upTo slot loc sitesIn usedIn boundIn all either _&_
-low-slot n m p = go (m .kind) refl (leb-true 1 (m .kind) (and-l (leb 1 (m .kind)) (leb (m .kind) 5) p)) (leb-true (m .kind) 5 (and-r (leb 1 (m .kind)) (leb (m .kind) 5) p))
-  where
-    go : (k : ℕ) → m .kind ≡ k → 1 ≤ m .kind → m .kind ≤ 5 → lowSlot n (slot m) ≡ lowName 4 n m
-    go zero e l h = absurd (omega arith)
-    go (suc zero) e l h = rw e (and-true (ltb (m .number) n))
-    go (suc (suc zero)) e l h = rw e
-    go (suc (suc (suc zero))) e l h = rw (e, and-true, and-true, and-true)
-    go (suc (suc (suc (suc zero)))) e l h = rw (e, and-true, and-true)
-    go (suc (suc (suc (suc (suc zero))))) e l h = rw e
-    go (suc (suc (suc (suc (suc (suc k)))))) e l h = absurd (omega arith)
+low-slot n m p =
+    by-kind
+    m
+    p
+    (λ e. rw e (and-true (ltb (m .number) n)))
+    (λ e. rw e)
+    (λ e. rw (e, and-true, and-true, and-true))
+    (λ e. rw (e, and-true, and-true))
+    (λ e. rw e)
 
 no-name : (most n : ℕ) (m : Name) → m .kind ≡ 0 → lowName most n m ≡ true
 unfolding lowName either

@@ -121,7 +121,7 @@ rightsAfter last (b ∷ f) = do
 unfoldable pub rightsField : List ℕ → Option ℕ
 rightsField f = given (not (empty f)) (rightsAfter 0 f)
 
--- a target, or a field of `out`: "site, `self`, variable"
+-- a target, or a field of `out`: "site, `self`, variable"; No. 1: "`_` in `out` or as a target is still 1."
 unfoldable pub locField : List ℕ → Option Loc
 locField f =
     otherwise (siteField f >>= λ s. some (At (record { 0 = s })))

@@ -3,7 +3,7 @@
 use mathlib.Core.Path.{_≡_, refl, sym, ap, _∙_}
 use mathlib.Core.Logic.{_⊎_, inl, inr}
 use mathlib.Core.Bool.{Bool, true, false, not, cond}
-use borrow.Author.Tests.{not-true}
+use borrow.Author.Tests.{not-true, leb-true}
 use mathlib.Core.List.{List, [], _∷_}
 use mathlib.Core.Option.{Option·none-ne-some, Option, none, some}
 use Prim.Native.Nat.{ℕ, zero, suc, _+_, _≤_, _<_}
@@ -17,7 +17,7 @@ use Rattle.sets.proofs.Lists.{and-l, and-r, eqb-eq, same-eq, in-none, all-i}
 use Rattle.klaim.specs.declared.Loc.{Loc}
 use Rattle.klaim.specs.declared.Loc.the-variants.{At, Here, Use}
 use Rattle.klaim.specs.declared.Slot.{Slot}
-use Rattle.klaim.specs.declared.Slot.the-variants.{Value, Bind, Wildcard}
+use Rattle.klaim.specs.declared.Slot.the-variants.{Value, Bind}
 use Rattle.klaim.specs.Rows.{text, given, otherwise, _>>=_, lettered, siteField, varField, isSelf, locField, bindField, isWildcard, slotField, towards}
 use Rattle.text.specs.declared.Name.{Name}
 use Rattle.text.specs.Fields.{noNumber, numberOf, binderOf, nameAs, upTo, loc, slot, sitesTo, pickName, Named, placeIn, letterOf}
@@ -89,6 +89,20 @@ pub named-none : (f : List ℕ) → length f ≡ 0 → Named f (nameAs 0 0)
 unfolding given upTo _&_ siteField towards locField slotField bindField isWildcard varField isSelf lettered same text otherwise _>>=_
 named-none [] h = record { site = refl; toward = refl; loc-is = refl; slot-is = refl }
 named-none (b ∷ f) h = absurd (omega arith)
+
+-- a name of the kinds up to 5, by its kind
+pub by-kind : {G : Type 0} (m : Name) → upTo 5 m ≡ true → (m .kind ≡ 1 → G) → (m .kind ≡ 2 → G) → (m .kind ≡ 3 → G) → (m .kind ≡ 4 → G) → (m .kind ≡ 5 → G) → G
+unfolding upTo
+by-kind {G} m p a b c d f = go (m .kind) refl (leb-true 1 (m .kind) (and-l _ _ p)) (leb-true (m .kind) 5 (and-r _ _ p))
+  where
+    go : (k : ℕ) → m .kind ≡ k → 1 ≤ m .kind → m .kind ≤ 5 → G
+    go zero e l h = absurd (omega arith)
+    go (suc zero) e l h = a e
+    go (suc (suc zero)) e l h = b e
+    go (suc (suc (suc zero))) e l h = c e
+    go (suc (suc (suc (suc zero)))) e l h = d e
+    go (suc (suc (suc (suc (suc zero))))) e l h = f e
+    go (suc (suc (suc (suc (suc (suc k)))))) e l h = absurd (omega arith)
 
 -- `_` is nothing else
 pub named-wildcard : (f : List ℕ) → isWildcard f ≡ true → Named f (nameAs 5 0)

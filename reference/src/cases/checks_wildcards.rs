@@ -131,8 +131,8 @@ fn alike(a: &State, b: &State) -> bool {
         && a.threads.iter().zip(b.threads.iter()).all(same)
 }
 
-/// A wildcard and a variable that nothing reads, with every B row: the rules
-/// hold or break alike, the reports are the same, and so are all steps.
+/// A wildcard and a variable that nothing reads, with every B row: what is
+/// accepted stays so, the reports are the same, and so are all steps.
 #[test]
 fn wildcards_are_variables_that_nothing_reads() {
     let (mut nets, mut steps) = (0, 0);

@@ -11,8 +11,8 @@ const NET: &str = "N,6\nR,s0,s1,r\nR,s0,s2,o\nT,s1,s3,s4\nT,s1,s3,s5\nL,s0,0\n\
 const ESTIMATE: &str = "B,u0,s3\nA,s1,s3,s4\nA,s1,s3,s5\nA,s2,s3\n";
 
 /// A ledger of four columns, each row of which has another lot at its end.
-/// The agent looks at one column, `TEMPLATE`, and its estimate has every lot
-/// but s5, and every site for u1.
+/// The agent looks at two columns at most, by `TEMPLATE`, and its estimate has
+/// every lot but s5 for u0, and every site for u1.
 const WIDE_NET: &str = "N,6\nR,s0,s1,i\nT,s1,s2,s3,s2,s4\nT,s1,s2,s4,s3,s5\nL,s0,0\n\
     Q,0,in,1,s1,TEMPLATE\nQ,1,nil\n";
 const WIDE_ESTIMATE: &str = "B,u0,s2\nB,u0,s3\nB,u0,s4\nB,u1,s0\nB,u1,s1\nB,u1,s2\nB,u1,s3\n\
@@ -61,8 +61,7 @@ const LINES: [(&str, u8); 26] = [
     ("read,1,s0,_,!u0,!u0", 7),
 ];
 
-/// Rows of other groups that have no wildcard: a net, or with its first row an
-/// estimate.
+/// Rows in which no wildcard may stand, of a net or of an estimate behind it.
 const ROWS: [&str; 5] =
     ["N,2\nT,s0,_\n", "N,2\nT,_,s0\n", "N,2\n.\nA,s0,_\n", "N,2\n.\nA,_,s0\n", "N,2\n.\nB,u0,_\n"];
 
