@@ -29,7 +29,10 @@ pick-name-requires : tie.Need-pick-name-requires
 pick-name-requires c κs = search needs
 
 returns-3 : tie.Need-returns-3
-returns-3 c = named-is _ _ _ _ _ (c .before .before .before .before .binder .ensures) (c .before .before .before .site .ensures) (c .before .before .is-self .ensures) (c .before .variable .ensures) (sym (c .before .before .before .before .before .before .is-wildcard .ensures) ∙ c .before .before .before .before .before .if2 .left) (c .pick-name .ensures)
+returns-3 c =
+    let at = c .before .before .before .before in
+    named-is _ _ _ _ _ (at .binder .ensures) (c .before .before .before .site .ensures) (c .before .before .is-self .ensures) (c .before .variable .ensures)
+    (sym (at .before .before .is-wildcard .ensures) ∙ at .before .if2 .left) (c .pick-name .ensures)
 
 pub named-spec : {M : Type 1} → statement M
 named-spec =
