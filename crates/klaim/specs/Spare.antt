@@ -31,7 +31,7 @@ pub record Spared (u : ℕ) (ss : List Slot) : Type 0 where
   pub same-tuples : (f : Loc → ℕ → Bool) (t : List ℕ) → matches f (map (spared u) ss) t ≡ matches f ss t
   -- "and binds nothing": u stays what it was, every other variable is bound as by ss
   pub bindings : (t : List ℕ) (e : Bindings) (w : ℕ) → getD (bindAll (map (spared u) ss) t e) w none ≡ cond (eqb w u) (getD e w none) (getD (bindAll ss t e) w none)
-  -- "binding a spare variable widens the estimate": it asks of E what ss asks of F, which is E but for u, where it has every site
+  -- "binding a spare variable widens the estimate": it asks of E what ss asks of F, which is E but for u, where it has the tuple's sites
   pub asked : (E F : Estimate) → ((w : ℕ) → (w ≡ u → ⊥) → may E w ≡ may F w) → (t : List ℕ) → all (λ v. mem v (may F u)) t ≡ true → bound E (map (spared u) ss) t ≡ bound F ss t
   -- for 7 and 8: it uses the same variables, and binds the others
   pub used : concat usedIn (map (spared u) ss) ≡ concat usedIn ss

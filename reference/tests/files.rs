@@ -1,0 +1,64 @@
+//! The files of the folder `examples`, held to what README says of them.
+
+mod common;
+use common::*;
+use std::fs;
+
+const FOLDER: &str = concat!(env!("CARGO_MANIFEST_DIR"), "/../examples/");
+
+/// Each file, and its listing up to the U rows.
+const LISTINGS: [(&str, &str); 9] = [
+    ("lab.txt", "accepted,0"),
+    ("lab_broken.txt", "broken,Q,4"),
+    ("lab_misread.txt", "accepted,1 V,s1,s3,o"),
+    ("ledger.txt", "accepted,0"),
+    ("ledger_reused.txt", "accepted,1 V,s0,s3,o"),
+    ("ledger_spare.txt", "accepted,0"),
+    ("march.txt", "accepted,1 V,s1,s1,a"),
+    ("shares.txt", "accepted,0"),
+    ("warehouse.txt", "accepted,0"),
+];
+
+fn text(file: &str) -> String {
+    fs::read_to_string(format!("{FOLDER}{file}")).unwrap()
+}
+
+#[test]
+fn listings() {
+    for (file, expected) in LISTINGS {
+        let listing = text_listing(&text(file));
+        assert_eq!(listing.split(" U,").next(), Some(expected), "{file}");
+    }
+}
+
+#[test]
+fn no_other_files() {
+    let names = fs::read_dir(FOLDER).unwrap().map(|entry| entry.unwrap().file_name());
+    let mut names: Vec<String> = names.map(|name| name.into_string().unwrap()).collect();
+    names.sort();
+    assert_eq!(names, LISTINGS.map(|(file, _)| file));
+}
+
+/// "Without the first it is `broken,Q,0`": a row for the clerk, then one for
+/// the weigher.
+#[test]
+fn a_spare_variable_needs_its_rows() {
+    for (row, answer) in [("B,u2,s3\n", "broken,Q,0"), ("B,u2,s4\n", "broken,Q,1")] {
+        let spare = text("ledger_spare.txt");
+        assert!(spare.contains(row));
+        assert_eq!(text_listing(&spare.replace(row, "")), answer);
+    }
+}
+
+/// The thread's bindings behind two steps.
+#[test]
+fn a_wildcard_binds_nothing() {
+    for (file, bindings) in
+        [("ledger.txt", ",2,u0=s2 u1=s5"), ("ledger_spare.txt", ",2,u0=s2 u1=s5 u2=s4")]
+    {
+        let input = text(file) + ".\nstep,0,0,0\nstep,0,0,0\n";
+        let output = String::from_utf8(reference::script::run(input.as_bytes())).unwrap();
+        let thread = output.lines().find(|row| row.starts_with("thread,"));
+        assert!(thread.unwrap().ends_with(bindings), "{file}");
+    }
+}
