@@ -9,13 +9,13 @@ use native.Mathlib.Numerals.{add-one}
 use native.Mathlib.Decide.{ℕ-discrete}
 use borrow.Author.Tests.{eq-eqb, ne-eqb, lt-ltb, le-ltb}
 use lib.Dec.{eqb, ltb}
-use lib.ListN.{length, length-set, getD, set, take, List·getD-append}
-use lib.Seq.{take-suc-set, getD-take, length-take-le, getD-set-same, getD-set-other}
+use lib.ListN.{length, length-set, getD, set, take}
+use lib.Seq.{take-suc-set, take-append-le, getD-take, length-take-le, getD-set-same, getD-set-other}
 use Rattle.sets.specs.Lists.{_&_, either}
 use Rattle.sets.specs.Bits.{mem, join}
 use Rattle.sets.proofs.Lists.{or-false, iff, all-turn, ltb-lt, in-getD, All-in}
 use Rattle.sets.proofs.Bits.{has-or, has-none}
-use Rattle.klaim.specs.Process.{Line, Nil, lineAt, move, ordered, tree}
+use Rattle.klaim.specs.Process.{Line, move, ordered, tree}
 use Rattle.klaim.specs.Net.{Net, Estimate}
 use Rattle.klaim.specs.Reader.{refused, gives, readArrival}
 use Rattle.klaim.specs.Engine.{Result, brought, joined, bringRead, bring}
@@ -24,9 +24,9 @@ use Rattle.klaim.specs.WellFormed.{ArrivalRead as ReadOk}
 use Rattle.klaim.proofs.Reader.{arrival-read}
 use Rattle.klaim.proofs.Invariant.{bring-keeps}
 use Rattle.klaim.proofs.Process.{tree-old, ordered-join}
-use Rattle.sets.proofs.Tables.{same-table, length-table}
-use Rattle.tables.specs.View.{estimateView, lineOf, linesView, rowAt, rowsView, InForm}
-use Rattle.tables.proofs.Lines.{length-view, line-view}
+use Rattle.sets.proofs.Tables.{length-table}
+use Rattle.tables.specs.View.{estimateView, linesView, rowAt, rowsView, InForm}
+use Rattle.tables.proofs.Lines.{length-view, first-lines}
 use Rattle.sets.proofs.Shared.{mem-single}
 use Rattle.rules.specs.Masks.{Sized}
 use Rattle.door.specs.Parts.{sound}
@@ -45,10 +45,11 @@ root-more roots k n h = rw add-one (take-suc-set roots k n h)
 
 -- lines put behind others leave the first of these
 pub own-kept : (own n m : ℕ) (bs new : List ℕ) (ls : List Line) → own ≤ n → linesView (n + m) new ≡ linesView n bs ++ ls → linesView own new ≡ linesView own bs
-unfolding linesView
 own-kept own n m bs new ls h e =
-    same-table own (lineOf new) (lineOf bs) Nil (λ q l.
-    sym (line-view (n + m) new q (omega arith)) ∙ ap (λ (x : List Line). lineAt x q) e ∙ List·getD-append (linesView n bs) ls Nil q (omega (arith, length-view n bs)) ∙ line-view n bs q (omega arith))
+    sym (first-lines (n + m) own new (omega arith))
+    ∙ ap (take own) e
+    ∙ take-append-le own (linesView n bs) ls (omega (arith, length-view n bs))
+    ∙ first-lines n own bs h
 
 -- a site more, or none
 module _ (set l s : ℕ) where

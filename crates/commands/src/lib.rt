@@ -23,6 +23,8 @@ pub const READY: u8 = 4;
 
 pub const BRING: u8 = 5;
 
+pub const WITHDRAW: u8 = 6;
+
 // The kind of a command with three numbers, by its name.
 fn kind_of(f: &[u8]) -> u8 {
     if text::same(f, b"step") {
@@ -93,6 +95,9 @@ pub fn read(row: &[u8]) -> Command {
     }
     if text::same(row, b"ready") {
         return bare(READY);
+    }
+    if text::same(row, b"withdraw") {
+        return bare(WITHDRAW);
     }
     with_numbers(row)
 }

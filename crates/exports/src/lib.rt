@@ -351,6 +351,53 @@ pub extern "C" fn salmurkki_bring(
     bring_behind(state, arrival, count)
 }
 
+// Withdraws the newest arrival from the same state again and again: the last state.
+fn withdraw_times(state: State, count: usize) -> State
+    requires { ⌜ Fits state ⌝ }
+    ensures { λ last. ⌜ Fits last ⌝ }
+{
+    let mut last = state;
+    let mut i: usize = 0;
+    while i < count {
+        last = withdraws::withdraw(state);
+        i += 1;
+    }
+    last
+}
+
+// How many lines a state has, and what is ready in it, as one number.
+fn counted(state: State) -> u32
+    requires { ⌜ Fits state ⌝ }
+{
+    let lines = state.nlines as u32;
+    std::num::wrapping_add_u32(lines * (NO_PLACE + 1), placed(ready::ready(state)))
+}
+
+// The newest arrival withdrawn behind a start, a bring and some steps.
+fn withdraw_behind(state: State, arrival: &[u8], choices: &[u8], count: usize) -> u32
+    requires { ⌜ (state .run .told .number ≡ 0 → Fits state) ⌝ }
+{
+    if state.run.told.number != 0 {
+        return REFUSED;
+    }
+    let next = brought(state, arrival);
+    counted(withdraw_times(prepared(next, choices), count))
+}
+
+// Starts, brings the arrival, makes a bare step for every three of the choices, and withdraws the newest arrival from the state behind
+// them again and again; then how many lines there are, and what is ready.
+#[no_mangle]
+pub extern "C" fn salmurkki_withdraw(
+    net: &[u8],
+    estimate: &[u8],
+    arrival: &[u8],
+    choices: &[u8],
+    count: usize,
+) -> u32 {
+    let state = starts::start(net, estimate);
+    withdraw_behind(state, arrival, choices, count)
+}
+
 // What is ready behind a start.
 fn start_behind(state: State) -> u32
     requires { ⌜ (state .run .told .number ≡ 0 → Fits state) ⌝ }

@@ -19,13 +19,13 @@ use Rattle.klaim.specs.Analysis.{Verdict, accepted, verdict}
 use Rattle.klaim.specs.Report.{report}
 use Rattle.klaim.specs.Check.{Checked, written, checkRead, check}
 use Rattle.klaim.specs.State.{Thread, State, begin, start}
-use Rattle.klaim.specs.Engine.{Event, silent, performed, Result, bringRead, bring, Plan, stop, quiet, act, permits, limit, finish, stepOf, step}
+use Rattle.klaim.specs.Engine.{Event, silent, performed, Result, bringRead, bring, newest, occupied, withdrawRoot, withdraw, Plan, stop, quiet, act, permits, limit, finish, stepOf, step}
 use Rattle.klaim.specs.Invariant.{Invariant}
-use Rattle.klaim.specs.Demand3.{Call, bringing, bare, guarded, call, guard, run, acting, Permitted, Safe, GuardsIdle, reportOf, Statement, Allowed, GuardStatement}
+use Rattle.klaim.specs.Demand3.{Call, bringing, withdrawing, bare, guarded, call, guard, run, acting, Permitted, Safe, GuardsIdle, reportOf, Statement, Allowed, GuardStatement}
 use Rattle.klaim.proofs.Scan.{refused-none}
 use Rattle.klaim.proofs.Reader.{both-read}
-use Rattle.klaim.proofs.Invariant.{step-keeps, bring-keeps, start-gives}
-use Rattle.klaim.proofs.Safety.{permits-allows, Tracked, tracked-within, step-tracked, step-permitted, step-same, joined-tracked, begin-tracked}
+use Rattle.klaim.proofs.Invariant.{step-keeps, bring-keeps, withdraw-keeps, start-gives}
+use Rattle.klaim.proofs.Safety.{permits-allows, Tracked, tracked-within, step-tracked, step-permitted, step-same, joined-tracked, freed-tracked, begin-tracked}
 
 -- calls from a state that the analysis of N and E follows
 module _ (N : Net) (E : Estimate) where
@@ -39,28 +39,42 @@ module _ (N : Net) (E : Estimate) where
   bringRead-permitted st (refused n row) = tt
   bringRead-permitted st (gives ls) = tt
 
+  withdrawRoot-tracked : (st : State) → Invariant st → Tracked N E st → (x : Option ℕ) → newest (st .arrivals) ≡ x → Tracked N E (withdrawRoot st x .state)
+  unfolding withdrawRoot
+  withdrawRoot-tracked st i t none e = t
+  withdrawRoot-tracked st i t (some r) e = cond-at (λ (x : Result). Tracked N E (x .state)) (occupied st r) (λ b. t) (λ b. freed-tracked N E st i t r e b)
+
+  withdrawRoot-permitted : (st : State) (x : Option ℕ) → Permitted N (report N E) none (withdrawRoot st x .answer)
+  unfolding withdrawRoot
+  withdrawRoot-permitted st none = tt
+  withdrawRoot-permitted st (some r) = cond-at (λ (x : Result). Permitted N (report N E) none (x .answer)) (occupied st r) (λ b. tt) (λ b. tt)
+
   module _ (st : State) (i : Invariant st) (t : Tracked N E st) where
     call-keeps : (c : Call) → Invariant (call st c .state)
     unfolding call
     call-keeps (bringing bytes) = bring-keeps st bytes i
+    call-keeps withdrawing = withdraw-keeps st i
     call-keeps (bare k m r) = step-keeps false st k m r i
     call-keeps (guarded k m r) = step-keeps true st k m r i
 
     call-tracked : (c : Call) → Tracked N E (call st c .state)
-    unfolding call bring
+    unfolding call bring withdraw
     call-tracked (bringing bytes) = bringRead-tracked st i t _
+    call-tracked withdrawing = withdrawRoot-tracked st i t _ refl
     call-tracked (bare k m r) = step-tracked N E st i t k m r false
     call-tracked (guarded k m r) = step-tracked N E st i t k m r true
 
     call-permitted : (c : Call) → Permitted N (report N E) (acting st c) (call st c .answer)
-    unfolding call bring acting
+    unfolding call bring withdraw acting
     call-permitted (bringing bytes) = bringRead-permitted st _
+    call-permitted withdrawing = withdrawRoot-permitted st _
     call-permitted (bare k m r) = step-permitted N E st i t k m r false
     call-permitted (guarded k m r) = step-permitted N E st i t k m r true
 
     call-same : report N E ≡ replicate 1024 0 → (c : Call) → call st (guard c) ≡ call st c
     unfolding call guard
     call-same z (bringing bytes) = refl
+    call-same z withdrawing = refl
     call-same z (bare k m r) = step-same N E st i t k m r z
     call-same z (guarded k m r) = refl
 

@@ -8,10 +8,11 @@ use mathlib.Core.Option.{Option, none, some}
 use Prim.Native.Nat.{ℕ, _+_, _<_, _≤_}
 use native.Mathlib.Omega.{arith}
 use lib.Dec.{leb, ltb}
-use lib.ListN.{length, getElem?, length-append, length-map, length-replicate, List·getD-append}
+use lib.ListN.{length, getElem?, take, drop, take-append-drop, length-append, length-map, length-replicate, List·getD-append}
+use lib.Seq.{length-take-le, getD-take, take-take, take-append-le, take-append-seam}
 use Rattle.sets.specs.Lists.{Elem, first, later, All, done, more, _&_, either, all, empty, splice, concat, among, _⧺_}
 use Rattle.sets.specs.Bits.{inBit, readBit}
-use Rattle.sets.proofs.Lists.{and-l, and-r, in-none, all-at, all-i, all-none, all-turn, all-snoc, all-append, all-map, all-splice, all-get, among-in, empty-none, All-get, All-append, All-splice, All-turn, All-in, All-concat, ltb-lt, lt-ltb, leb-le, in-concat, in-right, in-map, cond-at, concat-short, in-getD}
+use Rattle.sets.proofs.Lists.{and-l, and-r, in-none, all-at, all-i, all-none, all-turn, all-snoc, all-append, all-map, all-splice, all-get, among-in, empty-none, All-get, All-append, All-splice, All-turn, All-in, All-concat, ltb-lt, lt-ltb, leb-le, in-concat, in-right, in-map, cond-at, concat-short, in-getD, In-All, any-none, nleb-lt, all-front, in-front, in-last}
 use Rattle.sets.proofs.Tables.{length-table}
 use Rattle.klaim.specs.Limits.{threadLimit, tupleLimit}
 use Rattle.klaim.specs.declared.Loc.{Loc}
@@ -21,11 +22,12 @@ use Rattle.klaim.specs.Process.{Line, Nil, Par, Rep, Out, In, Read, Eval
 use Rattle.klaim.specs.Net.{Root, Net}
 use Rattle.klaim.specs.Reader.{Answer, refused, gives, World, readBoth}
 use Rattle.klaim.specs.State.{Bindings, Thread, State, unbound, isNil, settle, homePolicy, boxPolicy, rootThread, begin, start}
-use Rattle.klaim.specs.Engine.{Event, silent, Result, joined, bringRead, bring, value, bindAll, agrees, to, under, after, Plan, stop, quiet, act, getPlan, acceptPlan, plan, permits, limit, finish, stepOf, step}
-use Rattle.klaim.specs.Invariant.{allBelow, lineFits, ArrivalOk, ThreadOk, Invariant}
+use Rattle.klaim.specs.Engine.{Event, silent, Result, joined, bringRead, bring, newest, older, occupied, freed, withdrawRoot, withdraw, value, bindAll, agrees, to, under, after, Plan, stop, quiet, act, getPlan, acceptPlan, plan, permits, limit, finish, stepOf, step}
+use Rattle.klaim.specs.Invariant.{allBelow, lineFits, rising, ArrivalOk, ThreadOk, Invariant}
 use Rattle.klaim.specs.WellFormed.{RootOk, NetOk, EstimateOk, ArrivalRead}
 use Rattle.klaim.proofs.Reader.{then-gives, arrival-read, both-read}
-use Rattle.klaim.proofs.Process.{child-line, tree-node, tree-old, free-new, ordered-join, used-free, child-free}
+use Rattle.klaim.proofs.Process.{child-line, tree-node, tree-old, tree-first, free-new, ordered-join, used-free, child-free}
+use Rattle.klaim.proofs.Newest.{newest-last, rising-snoc, rising-front, rising-less}
 use Rattle.klaim.proofs.Bindings.{BoundTo, Holds, unbound-holds, BindsLow, bind-long, bind-holds, bind-kept, bind-new, each-all, LocOk, value-low}
 
 -- a thread on any line
@@ -64,7 +66,9 @@ after-ok st k th new ts i s n t few short = record {
   stand-few = i .stand-few;
   stand-distinct = i .stand-distinct;
   tuples-fit = t;
+  own-lines = i .own-lines;
   arrivals-ok = i .arrivals-ok;
+  arrivals-rise = i .arrivals-rise;
   threads-ok = All-append (All-splice k (settle-ok (st .net .size) (st .lines) th s) (i .threads-ok)) n;
 }
 
@@ -173,7 +177,7 @@ module _ (st : State) (i : Invariant st) (th : Thread) (o : Standing (st .net .s
       o .placed,
     )
       where
-        root : ArrivalOk (st .lines) r
+        root : ArrivalOk (length (st .net .lines)) (st .lines) r
         root = All-in (i .arrivals-ok) (among-in (st .arrivals) r p)
 
         guest : Standing n (st .lines) (under (st .net) d (th .site) r unbound)
@@ -253,10 +257,12 @@ fits-move n d (Eval a g b k) = refl
 fits-move n d (Accept a k) = refl
 
 -- lines put behind leave an arrival and a thread as they are
-arrival-old : (ls ms : List Line) → ordered ls ≡ true → (r : ℕ) → ArrivalOk ls r → ArrivalOk (ls ++ ms) r
-arrival-old ls ms f r o = record {
+arrival-old : (own : ℕ) (ls ms : List Line) → ordered ls ≡ true → (r : ℕ) → ArrivalOk own ls r → ArrivalOk own (ls ++ ms) r
+arrival-old own ls ms f r o = record {
   present = omega (arith, o .present, length-append ls ms);
   closed = subst (λ (t : Tree). empty (free t) ≡ true) (sym (tree-old ls ms r f (o .present))) (o .closed);
+  behind = o .behind;
+  apart = subst (λ (l : List Line). ordered l ≡ true) (sym (take-append-le r ls ms (omega (arith, o .present)))) (o .apart);
 }
 
 thread-old : (n : ℕ) (ls ms : List Line) → ordered ls ≡ true → (th : Thread) → ThreadOk n ls th → ThreadOk n (ls ++ ms) th
@@ -284,7 +290,9 @@ joined-ok st ms i a = record {
   stand-few = i .stand-few;
   stand-distinct = i .stand-distinct;
   tuples-fit = i .tuples-fit;
-  arrivals-ok = All-append (All-turn (arrival-old (st .lines) moved (i .lines-ordered)) (i .arrivals-ok)) (more new done);
+  own-lines = omega (arith, i .own-lines, total);
+  arrivals-ok = All-append (All-turn (arrival-old own (st .lines) moved (i .lines-ordered)) (i .arrivals-ok)) (more new done);
+  arrivals-rise = rising-snoc (st .arrivals) d (i .arrivals-rise) (all-i _ (st .arrivals) (λ s j. lt-ltb s d (All-in (i .arrivals-ok) j .present)));
   threads-ok = All-turn (thread-old n (st .lines) moved (i .lines-ordered)) (i .threads-ok);
 }
   where
@@ -294,16 +302,21 @@ joined-ok st ms i a = record {
     d : ℕ
     d = length (st .lines)
 
+    own : ℕ
+    own = length (st .net .lines)
+
     moved : List Line
     moved = map (move d) ms
 
     total : length (st .lines ++ moved) ≡ d + length ms
     total = length-append (st .lines) moved ∙ ap (λ (j : ℕ). d + j) (length-map ms (move d))
 
-    new : ArrivalOk (st .lines ++ moved) d
+    new : ArrivalOk own (st .lines ++ moved) d
     new = record {
       present = omega (arith, a .some-line, total);
       closed = subst (λ (us : List ℕ). empty us ≡ true) (sym (free-new (st .lines) ms (i .lines-ordered))) (a .closed);
+      behind = i .own-lines;
+      apart = subst (λ (l : List Line). ordered l ≡ true) (sym (take-append-seam (st .lines) moved)) (i .lines-ordered);
     }
 
 bringRead-ok : (st : State) (x : Answer (List Line)) → ((ls : List Line) → x ≡ gives ls → ArrivalRead (st .net .size) (length (st .lines)) ls) → Invariant st → Invariant (bringRead st x .state)
@@ -315,6 +328,90 @@ bringRead-ok st (gives ls) h i = joined-ok st ls i (h ls refl)
 pub bring-keeps : (st : State) (bytes : List ℕ) → Invariant st → Invariant (bring st bytes .state)
 unfolding bring
 bring-keeps st bytes i = bringRead-ok st _ (λ ls e. arrival-read _ _ bytes ls (i .lines-few) e) i
+
+-- the first r lines, which name none behind them
+module _ (ls : List Line) (r : ℕ) (few : r ≤ length ls) (t : ordered (take r ls) ≡ true) where
+  first-long : length (take r ls) ≡ r
+  first-long = length-take-le r ls few
+
+  first-tree : (q : ℕ) → q < r → tree (take r ls) q ≡ tree ls q
+  first-tree q h = tree-first ls r q t (omega (arith, first-long))
+
+  -- are enough for an arrival and a thread that stand on them
+  arrival-first : (own s : ℕ) → s < r → ArrivalOk own ls s → ArrivalOk own (take r ls) s
+  arrival-first own s h o = record {
+    present = omega (arith, first-long);
+    closed = subst (λ (t : Tree). empty (free t) ≡ true) (sym (first-tree s h)) (o .closed);
+    behind = o .behind;
+    apart = subst (λ (l : List Line). ordered l ≡ true) (sym (take-take s r ls (omega arith))) (o .apart);
+  }
+
+  thread-first : (n : ℕ) (th : Thread) → th .line < r → ThreadOk n ls th → ThreadOk n (take r ls) th
+  thread-first n th h o = record {
+    placed = o .placed;
+    policy-long = o .policy-long;
+    present = omega (arith, first-long);
+    running = ap isNil (getD-take r ls (th .line) Nil h) ∙ o .running;
+    bindings-long = o .bindings-long;
+    bindings-low = o .bindings-low;
+    free-bound = λ u k. o .free-bound u (subst (λ (t : Tree). Elem u (free t)) (first-tree (th .line) h) k);
+  }
+
+-- no thread stands on the lines from r on
+pub unoccupied : (st : State) (r : ℕ) → occupied st r ≡ false → (th : Thread) → Elem th (st .threads) → th .line < r
+unfolding occupied
+unoccupied st r e th j = nleb-lt r (th .line) (any-none (λ x. leb r (x .line)) e j)
+
+-- the newest arrival is an arrival, and the others have lesser roots
+module _ (st : State) (i : Invariant st) (r : ℕ) (e : newest (st .arrivals) ≡ some r) where
+  pub newest-ok : ArrivalOk (length (st .net .lines)) (st .lines) r
+  newest-ok = All-in (subst (All (ArrivalOk (length (st .net .lines)) (st .lines))) (newest-last (st .arrivals) e) (i .arrivals-ok)) (in-last (older (st .arrivals)) r)
+
+  pub rises : rising (older (st .arrivals) ++ (r ∷ [])) ≡ true
+  rises = subst (λ (rs : List ℕ). rising rs ≡ true) (newest-last (st .arrivals) e) (i .arrivals-rise)
+
+  -- what stands on a line before its root stands for what it stood for
+  pub kept-tree : (q : ℕ) → q < r → tree (take r (st .lines)) q ≡ tree (st .lines) q
+  kept-tree q h = first-tree (st .lines) r (omega (arith, newest-ok .present)) (newest-ok .apart) q h
+
+  freed-ok : occupied st r ≡ false → Invariant (freed st r)
+  unfolding freed
+  freed-ok free = record {
+    lines-ordered = newest-ok .apart;
+    sites-some = i .sites-some;
+    sites-few = i .sites-few;
+    lines-few = omega (arith, i .lines-few, long, newest-ok .present);
+    threads-few = i .threads-few;
+    tuples-few = i .tuples-few;
+    lines-fit = all-front (lineFits (st .net .size)) (take r (st .lines)) (drop r (st .lines)) (subst (λ (l : List Line). all (lineFits (st .net .size)) l ≡ true) (sym (take-append-drop r (st .lines))) (i .lines-fit));
+    stand-fit = i .stand-fit;
+    stand-few = i .stand-few;
+    stand-distinct = i .stand-distinct;
+    tuples-fit = i .tuples-fit;
+    own-lines = omega (arith, newest-ok .behind, long);
+    arrivals-ok = In-All (older (st .arrivals)) (λ s j. arrival-first (st .lines) r few (newest-ok .apart) (length (st .net .lines)) s (rising-less _ r rises s j) (old s j));
+    arrivals-rise = rising-front (older (st .arrivals)) r rises;
+    threads-ok = In-All (st .threads) (λ th j. thread-first (st .lines) r few (newest-ok .apart) (st .net .size) th (unoccupied st r free th j) (All-in (i .threads-ok) j));
+  }
+    where
+      few : r ≤ length (st .lines)
+      few = omega (arith, newest-ok .present)
+
+      long : length (take r (st .lines)) ≡ r
+      long = length-take-le r (st .lines) few
+
+      old : (s : ℕ) → Elem s (older (st .arrivals)) → ArrivalOk (length (st .net .lines)) (st .lines) s
+      old s j = All-in (i .arrivals-ok) (subst (Elem s) (sym (newest-last (st .arrivals) e)) (in-front (r ∷ []) j))
+
+withdrawRoot-ok : (st : State) (x : Option ℕ) → newest (st .arrivals) ≡ x → Invariant st → Invariant (withdrawRoot st x .state)
+unfolding withdrawRoot
+withdrawRoot-ok st none e i = i
+withdrawRoot-ok st (some r) e i = cond-at (λ (x : Result). Invariant (x .state)) (occupied st r) (λ t. i) (λ t. freed-ok st i r e t)
+
+-- withdraw keeps the invariant
+pub withdraw-keeps : (st : State) → Invariant st → Invariant (withdraw st .state)
+unfolding withdraw
+withdraw-keeps st i = withdrawRoot-ok st _ refl i
 
 settle-short : (ls : List Line) (th : Thread) → length (settle ls th) ≤ 1
 unfolding settle
@@ -332,7 +429,7 @@ root-stands N r o = record {
 }
 
 begin-ok : (w : World) → NetOk (w .net) → EstimateOk (w .net .size) (w .estimate) → Invariant (begin w)
-unfolding begin
+unfolding begin rising
 begin-ok w n e = record {
   sites-some = n .sites-some;
   sites-few = n .sites-few;
@@ -345,7 +442,9 @@ begin-ok w n e = record {
   stand-few = e .stand-few;
   stand-distinct = e .stand-distinct;
   tuples-fit = n .tuples-fit;
+  own-lines = omega arith;
   arrivals-ok = done;
+  arrivals-rise = refl;
   threads-ok = All-concat (λ r. settle (w .net .lines) (rootThread (w .net) r)) (λ r o. settle-ok (w .net .size) (w .net .lines) (rootThread (w .net) r) (root-stands (w .net) r o)) (n .roots-ok);
 }
 

@@ -3,10 +3,12 @@ pub mod Scan
 pub mod Reader
 pub mod Spare
 pub mod Bindings
+pub mod Newest
 pub mod Invariant
 pub mod Flow
 pub mod Safety
 pub mod Demand3
+pub mod Undone
 pub mod Ready
 pub mod Choices
 pub mod Above

@@ -23,11 +23,11 @@ use Rattle.klaim.specs.Reader.{gives, World}
 use Rattle.klaim.specs.Analysis.{accepted, verdict}
 use Rattle.klaim.specs.Report.{reportAt, report, door}
 use Rattle.klaim.specs.State.{Thread, State, unbound, isNil, settle, rootThread, begin}
-use Rattle.klaim.specs.Engine.{Event, silent, performed, Result, refuse, joined, value, agrees, to, under, after, Plan, stop, quiet, act, getPlan, acceptPlan, plan, permits, limit, finish, stepOf, step}
+use Rattle.klaim.specs.Engine.{Event, silent, performed, Result, refuse, joined, newest, occupied, freed, value, agrees, to, under, after, Plan, stop, quiet, act, getPlan, acceptPlan, plan, permits, limit, finish, stepOf, step}
 use Rattle.klaim.specs.Invariant.{allBelow, Invariant}
 use Rattle.klaim.specs.Demand3.{listed, forbids, Permitted, Within}
 use Rattle.klaim.proofs.Process.{tree-node, tree-old}
-use Rattle.klaim.proofs.Invariant.{Standing, standing, loc-ok, binds-low}
+use Rattle.klaim.proofs.Invariant.{Standing, standing, loc-ok, binds-low, unoccupied, kept-tree}
 use Rattle.klaim.proofs.Bindings.{LocOk, BindsLow}
 use Rattle.klaim.proofs.Flow.{Fine, Used, Good, good-par-l, good-par-r, good-rep, good-out, good-eval, good-accept, good-get, out-stands, out-used, get-used, eval-used, accept-used, good-body, good-arrival, good-root, root-lawful, tuple-stands}
 
@@ -264,6 +264,16 @@ module _ (N : Net) (E : Estimate) (st : State) (i : Invariant st) (t : Tracked N
     same-estimate = t .same-estimate;
     tuples-in = t .tuples-in;
     threads-sound = In-All (st .threads) (λ th j. subst (Good N E (th .site) (th .policy) (th .bindings)) (sym (tree-old (st .lines) _ (th .line) (i .lines-ordered) (All-in (i .threads-ok) j .present))) (All-in (t .threads-sound) j));
+  }
+
+  -- withdraw takes lines away that no thread stands on, which leaves it too
+  pub freed-tracked : (r : ℕ) → newest (st .arrivals) ≡ some r → occupied st r ≡ false → Tracked N E (freed st r)
+  unfolding freed
+  freed-tracked r e free = record {
+    same-net = t .same-net;
+    same-estimate = t .same-estimate;
+    tuples-in = t .tuples-in;
+    threads-sound = In-All (st .threads) (λ th j. subst (Good N E (th .site) (th .policy) (th .bindings)) (sym (kept-tree st i r e (th .line) (unoccupied st r free th j))) (All-in (t .threads-sound) j));
   }
 
 -- the start

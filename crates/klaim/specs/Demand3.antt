@@ -14,23 +14,27 @@ use Rattle.klaim.specs.Reader.{Answer, refused, gives}
 use Rattle.klaim.specs.Analysis.{accepted}
 use Rattle.klaim.specs.Check.{check}
 use Rattle.klaim.specs.State.{Thread, State, start}
-use Rattle.klaim.specs.Engine.{Event, brought, silent, performed, Result, step, bring}
+use Rattle.klaim.specs.Engine.{Event, brought, withdrawn, silent, performed, Result, step, bring, withdraw}
 
--- a call: bring, with any bytes; a bare or a guarded step, with any numbers
+-- a call: bring, with any bytes; a bare or a guarded step, with any numbers; No. 8: withdraw, since "lists that contain withdrawals are
+-- covered like any other run"
 pub data Call : Type 0 where
   bringing : List ℕ → Call
+  withdrawing : Call
   bare : ℕ → ℕ → ℕ → Call
   guarded : ℕ → ℕ → ℕ → Call
 
 -- what a call answers and leaves
 unfoldable pub call : State → Call → Result
 call st (bringing bytes) = bring st bytes
+call st withdrawing = withdraw st
 call st (bare k m r) = step false st k m r
 call st (guarded k m r) = step true st k m r
 
 -- the same call, a step guarded
 unfoldable pub guard : Call → Call
 guard (bringing bytes) = bringing bytes
+guard withdrawing = withdrawing
 guard (bare k m r) = guarded k m r
 guard (guarded k m r) = guarded k m r
 
@@ -42,6 +46,7 @@ run st (c ∷ cs) = call st c ∷ run (call st c .state) cs
 -- the thread that a call acts on
 unfoldable pub acting : State → Call → Option Thread
 acting st (bringing bytes) = none
+acting st withdrawing = none
 acting st (bare k m r) = getElem? (st .threads) k
 acting st (guarded k m r) = getElem? (st .threads) k
 
@@ -58,6 +63,7 @@ forbids N th t right = either (not (has (getD (th .policy) t 0) right)) (not (ha
 abbrev pub Permitted : Net → List ℕ → Option Thread → Answer Event → Type 0
 Permitted N report th (refused n row) = Unit {0}
 Permitted N report th (gives (brought q)) = Unit {0}
+Permitted N report th (gives (withdrawn q)) = Unit {0}
 Permitted N report th (gives silent) = Unit {0}
 Permitted N report none (gives (performed s t right)) = ⊥
 Permitted N report (some th) (gives (performed s t right)) = forbids N th t right ≡ true → listed report s t right ≡ true
@@ -96,6 +102,7 @@ Statement = (net estimate buffer : List ℕ) → check net estimate buffer .answ
 abbrev pub Allowed : Net → Option Thread → Answer Event → Type 0
 Allowed N th (refused n row) = Unit {0}
 Allowed N th (gives (brought q)) = Unit {0}
+Allowed N th (gives (withdrawn q)) = Unit {0}
 Allowed N th (gives silent) = Unit {0}
 Allowed N none (gives (performed s t right)) = ⊥
 Allowed N (some th) (gives (performed s t right)) = forbids N th t right ≡ false

@@ -1,11 +1,11 @@
--- Bring, the two steps, the door called by itself, and ready.
+-- Bring, withdraw, the two steps, the door called by itself, and ready.
 -- Assumes nothing.
 use mathlib.Core.Bool.{Bool, true, false, not, cond}
-use mathlib.Core.List.{List, [], _∷_, _++_, map}
+use mathlib.Core.List.{List, [], _∷_, _++_, map, getLast?, dropLast}
 use mathlib.Core.Option.{Option, none, some, Option·getD}
 use Prim.Native.Nat.{ℕ, suc}
 use lib.Dec.{eqb, leb, ltb}
-use lib.ListN.{length, getD, getElem?, set}
+use lib.ListN.{length, getD, getElem?, set, take}
 use Rattle.sets.specs.Lists.{_&_, either, any, keep, splice, below, among}
 use Rattle.sets.specs.Bits.{outBit, inBit, readBit, evalBit, acceptBit, has}
 use Rattle.klaim.specs.declared.Loc.{Loc}
@@ -20,9 +20,10 @@ use Rattle.klaim.specs.Analysis.{matches, least}
 use Rattle.klaim.specs.Report.{door}
 use Rattle.klaim.specs.State.{Bindings, Thread, State, unbound, settle, boxPolicy}
 
--- what a bring or a step that is not refused answers: an arrival's root; 'silent'; "its site, target and right"
+-- what a bring, a withdrawal or a step that is not refused answers: an arrival's root; 'silent'; "its site, target and right"
 pub data Event : Type 0 where
   brought : ℕ → Event
+  withdrawn : ℕ → Event
   silent : Event
   performed : ℕ → ℕ → ℕ → Event
 
@@ -54,6 +55,39 @@ bringRead st (gives ls) = record { answer = gives (brought (length (st .lines)))
 -- "Bring uses 1 to 8": it answers the root's line number
 unfoldable pub bring : State → List ℕ → Result
 bring st bytes = bringRead st (readArrival (st .net .size) (length (st .lines)) bytes)
+
+-- No. 8: "the newest arrival": the last of the roots, if there is one
+unfoldable pub newest : List ℕ → Option ℕ
+newest rs = getLast? rs
+
+-- the roots of the others
+unfoldable pub older : List ℕ → List ℕ
+older rs = dropLast rs
+
+-- No. 8: "a thread stands on one of that arrival's lines": of the newest arrival these are the lines from its root r on
+unfoldable pub occupied : State → ℕ → Bool
+occupied st r = any (λ th. leb r (th .line)) (st .threads)
+
+-- No. 8: "its lines become free again"
+unfoldable pub freed : State → ℕ → State
+freed st r = record {
+  net = st .net;
+  estimate = st .estimate;
+  lines = take r (st .lines);
+  arrivals = older (st .arrivals);
+  threads = st .threads;
+  tuples = st .tuples;
+}
+
+-- No. 8: "It refuses with 35 while the state has no arrival, then with 36 while a thread stands on one of that arrival's lines, and
+-- the state is kept."
+unfoldable pub withdrawRoot : State → Option ℕ → Result
+withdrawRoot st none = refuse 35 0 st
+withdrawRoot st (some r) = cond (occupied st r) (refuse 36 0 st) (record { answer = gives (withdrawn r); state = freed st r })
+
+-- No. 8: "a call that withdraws the newest arrival": it answers the root's line number
+unfoldable pub withdraw : State → Result
+withdraw st = withdrawRoot st (newest (st .arrivals))
 
 -- the site that a target or a field stands for, at site l; every variable that is met is bound (the invariant says so)
 unfoldable pub value : ℕ → Bindings → Loc → ℕ

@@ -6,7 +6,7 @@ use mathlib.Core.List.{List, [], _∷_}
 use mathlib.Core.Option.{none, some}
 use Prim.Native.Nat.{ℕ, _<_, _≤_}
 use lib.Dec.{ltb}
-use lib.ListN.{length, getD}
+use lib.ListN.{length, getD, take}
 use Rattle.sets.specs.Lists.{Elem, All, _&_, all, any, concat, empty, same, _⧺_}
 use Rattle.klaim.specs.Limits.{siteLimit, varLimit, boxLimit, threadLimit, tupleLimit, lineLimit}
 use Rattle.klaim.specs.Process.{Line, lineAt, boxesOf, slotsOf, sitesIn, usedIn, boundIn, ordered, tree, free}
@@ -28,10 +28,17 @@ unfoldable pub distinct : List (List ℕ) → Bool
 distinct [] = true
 distinct (t ∷ ts) = not (any (same t) ts) & distinct ts
 
--- an arrival's root is a line, and what 8 leaves of it
-pub record ArrivalOk (ls : List Line) (r : ℕ) : Type 0 where
+-- each number is less than those behind it
+unfoldable pub rising : List ℕ → Bool
+rising [] = true
+rising (r ∷ rs) = all (ltb r) rs & rising rs
+
+-- an arrival's root is a line behind the net's own, and what 8 leaves of it; the lines before it name none from it on
+pub record ArrivalOk (own : ℕ) (ls : List Line) (r : ℕ) : Type 0 where
   pub present : r < length ls
   pub closed : empty (free (tree ls r)) ≡ true
+  pub behind : own ≤ r
+  pub apart : ordered (take r ls) ≡ true
 
 -- a thread stands at a site, on a line that is not `nil`, and each free variable of its line is bound to a site
 pub record ThreadOk (n : ℕ) (ls : List Line) (th : Thread) : Type 0 where
@@ -56,5 +63,7 @@ pub record Invariant (st : State) : Type 0 where
   pub stand-few : length (st .estimate .stand) ≤ tupleLimit
   pub stand-distinct : distinct (st .estimate .stand) ≡ true
   pub tuples-fit : all (allBelow (st .net .size)) (st .tuples) ≡ true
-  pub arrivals-ok : All (ArrivalOk (st .lines)) (st .arrivals)
+  pub own-lines : length (st .net .lines) ≤ length (st .lines)
+  pub arrivals-ok : All (ArrivalOk (length (st .net .lines)) (st .lines)) (st .arrivals)
+  pub arrivals-rise : rising (st .arrivals) ≡ true
   pub threads-ok : All (ThreadOk (st .net .size) (st .lines)) (st .threads)

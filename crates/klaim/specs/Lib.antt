@@ -1,4 +1,4 @@
--- Document 01, in its order; No. 1 and No. 7 in a comment are those requests of document 02.
+-- Document 01, in its order; No. 1, No. 7 and No. 8 in a comment are those requests of document 02.
 pub mod Limits
 pub mod Process
 pub mod Rows
@@ -15,3 +15,4 @@ pub mod Listing
 pub mod Rounding
 pub mod Spare
 pub mod Demand3
+pub mod Undone

@@ -4,6 +4,7 @@ ghost use Prim.Native.Nat.{_<_, _≤_};
 ghost use lib.ListN.{length};
 ghost use Rattle.state.specs.Fits.{Fits};
 ghost use Rattle.step.specs.Stepped.{Stepped};
+ghost use Rattle.withdraws.specs.Withdrawn.{Withdrawn};
 use commands::Command;
 use ready::DoorAnswer;
 use ready::ReadyAnswer;
@@ -26,13 +27,15 @@ fn say_step(told: Told) {
     answers::say(b"silent\n");
 }
 
-// The row for what a bring did.
-fn say_brought(told: Told) {
+// The row for what a bring or a withdrawal did: its word, and the line of the arrival's root.
+fn say_root(word: &[u8], told: Told)
+    requires { ⌜ length (now word) ≤ 16 ⌝ }
+{
     if told.number != 0 {
         answers::say_refused(told.number, told.row);
         return;
     }
-    answers::say_count(b"brought,", told.site as usize);
+    answers::say_count(word, told.site as usize);
 }
 
 // The row for the door's answer.
@@ -109,6 +112,16 @@ fn try_door(state: State, c: Command)
     say_door(answer);
 }
 
+// A withdrawal of the newest arrival, and its row.
+fn withdraw(state: State) -> State
+    requires { ⌜ Fits state ⌝ }
+    ensures { λ next. ⌜ Withdrawn state next ⌝ }
+{
+    let next = withdraws::withdraw(state);
+    say_root(b"withdrawn,", next.run.told);
+    next
+}
+
 // A command other than `bring`: the state behind it.
 fn obey(state: State, c: Command) -> State
     requires { ⌜ Fits state ⌝ }
@@ -128,6 +141,9 @@ fn obey(state: State, c: Command) -> State
         say_ready(ready::ready(state));
         return state;
     }
+    if c.kind == commands::WITHDRAW {
+        return withdraw(state);
+    }
     say_bad();
     state
 }
@@ -139,7 +155,7 @@ fn fetch(state: State, rest: &[u8]) -> State
 {
     let n = parts::before(rest);
     let next = brings::bring(state, &rest[..n]);
-    say_brought(next.run.told);
+    say_root(b"brought,", next.run.told);
     next
 }
 

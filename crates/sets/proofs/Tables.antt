@@ -2,13 +2,13 @@
 -- Assumes nothing.
 use mathlib.Core.Path.{_≡_, refl, sym, ap, subst, _∙_}
 use mathlib.Core.Bool.{Bool, true}
-use mathlib.Core.List.{List, [], _∷_, _++_}
+use mathlib.Core.List.{List, [], _∷_, _++_, map}
 use Prim.Native.Nat.{ℕ, zero, suc, _+_, _-_, _<_, _≤_}
 use native.Mathlib.Omega.{arith}
 use native.Mathlib.Decide.{ℕ-discrete}
 use native.Mathlib.Nat.{add-zero}
-use lib.ListN.{length, getD, drop, set, length-set}
-use lib.Seq.{drop-cons, getD-set-same, getD-set-other, ext-getD}
+use lib.ListN.{length, getD, take, drop, set, length-set}
+use lib.Seq.{drop-cons, length-take-le, getD-take, getD-set-same, getD-set-other, ext-getD}
 use Rattle.sets.specs.Lists.{Elem, first, later, all, table, tableFrom, below}
 use Rattle.sets.proofs.Lists.{in-none, and-l, and-r}
 
@@ -72,6 +72,34 @@ from-snoc {A} (suc n) i f = ap (λ (l : List A). f i ∷ l) (from-snoc n (suc i)
 pub table-snoc : {A : Type 0} (n : ℕ) (f : ℕ → A) → table (suc n) f ≡ table n f ++ (f n ∷ [])
 unfolding table
 table-snoc {A} n f = from-snoc n 0 f ∙ ap (λ (k : ℕ). tableFrom n 0 f ++ (f k ∷ [])) (omega arith)
+
+-- the first r elements
+from-take : {A : Type 0} (n r i : ℕ) (f : ℕ → A) → r ≤ n → take r (tableFrom n i f) ≡ tableFrom r i f
+unfolding tableFrom
+from-take n zero i f h = refl
+from-take zero (suc r) i f h = absurd (omega arith)
+from-take {A} (suc n) (suc r) i f h = ap (λ (l : List A). f i ∷ l) (from-take n r (suc i) f (omega arith))
+
+pub table-take : {A : Type 0} (n r : ℕ) (f : ℕ → A) → r ≤ n → take r (table n f) ≡ table r f
+unfolding table
+table-take n r f h = from-take n r 0 f h
+
+-- the first n elements of a list as a table, and a table with a function put on each element
+pub take-table : {A : Type 0} (d : A) (n : ℕ) (l : List A) → n ≤ length l → take n l ≡ table n (λ k. getD l k d)
+take-table d n l h =
+    ext-getD d (take n l) (table n (λ k. getD l k d)) (long ∙ sym (length-table n (λ k. getD l k d))) (λ k i. getD-take n l k d (omega (arith, long)) ∙ sym (getD-table n (λ j. getD l j d) k d (omega (arith, long))))
+  where
+    long : length (take n l) ≡ n
+    long = length-take-le n l h
+
+from-map : {A B : Type 0} (g : A → B) (n i : ℕ) (f : ℕ → A) → map g (tableFrom n i f) ≡ tableFrom n i (λ k. g (f k))
+unfolding tableFrom
+from-map g zero i f = refl
+from-map {A} {B} g (suc n) i f = ap (λ (l : List B). g (f i) ∷ l) (from-map g n (suc i) f)
+
+pub map-table : {A B : Type 0} (g : A → B) (n : ℕ) (f : ℕ → A) → map g (table n f) ≡ table n (λ k. g (f k))
+unfolding table
+map-table g n f = from-map g n 0 f
 
 -- what stands in a table
 from-in : {A : Type 0} (n i : ℕ) (f : ℕ → A) (k : ℕ) → k < n → Elem (f (i + k)) (tableFrom n i f)

@@ -5,7 +5,7 @@ use Prim.Native.Nat.{_<_}
 use native.Mathlib.Omega.{arith}
 use borrow.Author.Tests.{ne-eqb}
 use Rattle.klaim.specs.Reader.{refused, gives}
-use Rattle.klaim.specs.Engine.{brought, silent, performed}
+use Rattle.klaim.specs.Engine.{brought, withdrawn, silent, performed}
 use Rattle.state.specs.declared.Told.{Told}
 use Rattle.state.specs.View.{eventView, answerView}
 
@@ -19,6 +19,10 @@ module _ (t : Told) (e : t .number ≡ 0) where
   pub brought-view : t .event ≡ 0 → answerView t ≡ gives (brought (t .site))
   unfolding answerView eventView
   brought-view q = rw (e, q)
+
+  pub withdrawn-view : t .event ≡ 3 → answerView t ≡ gives (withdrawn (t .site))
+  unfolding answerView eventView
+  withdrawn-view q = rw (e, q)
 
   pub silent-view : t .event ≡ 1 → answerView t ≡ gives silent
   unfolding answerView eventView

@@ -1,12 +1,16 @@
--- A state handed over in parts, put together again.
+-- A state handed over in parts, put together again; one that has gone on, or has another answer.
 -- Assumes nothing.
 use mathlib.Core.Path.{_≡_, refl, sym, subst}
 use mathlib.Core.List.{List}
-use Prim.Native.Nat.{ℕ}
+use Prim.Native.Nat.{ℕ, _≤_}
 use native.Mathlib.Omega.{arith}
+use lib.ListN.{length}
+use Rattle.klaim.specs.Invariant.{Invariant}
+use Rattle.state.specs.declared.Told.{Told}
 use Rattle.state.specs.declared.Run.{Run}
 use Rattle.state.specs.declared.State.{State}
-use Rattle.state.specs.Fits.{Fits}
+use Rattle.state.specs.View.{stateView}
+use Rattle.state.specs.Fits.{soundAt, Fits}
 use Rattle.state.specs.Lent.{Lent, Parts, Handed, TableAfter, goneOn}
 
 -- a state has its own tables and parts
@@ -56,6 +60,29 @@ module _ {homes boxes binds lines : List ℕ} {nlines : ℕ} {arrivals : List �
   -- what is so of it under these names is so of it
   pub of-joined : (P : State → Type 0) → P joined → P st
   of-joined P p = subst P joined-is p
+
+-- a state that has gone on keeps what is its own of the invariant
+pub fits-on : (st : State) (tuples : List ℕ) (run : Run) → Fits st → length tuples ≡ 1536 → run .nthreads ≤ 64 → Invariant (stateView (goneOn st tuples run)) → Fits (goneOn st tuples run)
+unfolding stateView soundAt
+fits-on st tuples run f long few i = record {
+  lines-long = f .lines-long;
+  arrivals-long = f .arrivals-long;
+  sound-long = f .sound-long;
+  tuples-long = long;
+  threads-few = few;
+  own-few = f .own-few;
+  arrivals-few = f .arrivals-few;
+  sound-is = f .sound-is;
+  invariant = i;
+}
+
+-- the state with another answer, which has the invariant too
+abbrev pub answering : State → Told → State
+answering st told = goneOn st (st .tuples) (record { threads = st .run .threads; nthreads = st .run .nthreads; ntuples = st .run .ntuples; told = told })
+
+pub answering-fits : (st : State) → Fits st → (told : Told) → Fits (answering st told)
+unfolding stateView
+answering-fits st f told = fits-on st (st .tuples) (answering st told .run) f (f .tuples-long) (f .threads-few) (f .invariant)
 
 -- a table that is not touched, and one whose count is told otherwise
 pub table-same : {old : List ℕ} {n m k : ℕ} → k ≡ n → TableAfter old n m k old

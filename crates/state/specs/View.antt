@@ -6,7 +6,7 @@ use lib.Dec.{eqb}
 use lib.ListN.{take}
 use Rattle.klaim.specs.Reader.{Answer, refused, gives}
 use Rattle.klaim.specs.State as Spec
-use Rattle.klaim.specs.Engine.{Event, brought, silent, performed, Result}
+use Rattle.klaim.specs.Engine.{Event, brought, withdrawn, silent, performed, Result}
 use Rattle.klaim.specs.Process.{Line}
 use Rattle.klaim.specs.Net as Net
 use Rattle.tables.specs.View.{estimateView, linesView, rowsView, rootsView}
@@ -39,7 +39,11 @@ stateView st = record {
 
 -- what a call that was not refused did
 unfoldable pub eventView : Told → Event
-eventView t = cond (eqb (t .event) 0) (brought (t .site)) (cond (eqb (t .event) 1) silent (performed (t .site) (t .target) (t .right)))
+eventView t =
+    cond (eqb (t .event) 0) (brought (t .site))
+    (cond (eqb (t .event) 1) silent
+    (cond (eqb (t .event) 3) (withdrawn (t .site))
+    (performed (t .site) (t .target) (t .right))))
 
 -- the answer of document 01: "A refusal returns its number, and its row"
 unfoldable pub answerView : Told → Answer Event

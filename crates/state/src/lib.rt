@@ -3,13 +3,14 @@ ghost use mathlib.Core.Path.{_≡_};
 ghost use Prim.Native.Nat.{_<_};
 ghost use mathlib.Core.Bool.{cond};
 ghost use Rattle.klaim.specs.Reader.{refused as refusedOf, gives};
-ghost use Rattle.klaim.specs.Engine.{brought as broughtOf, silent as silentOf, performed};
+ghost use Rattle.klaim.specs.Engine.{brought as broughtOf, withdrawn as withdrawnOf, silent as silentOf, performed};
 ghost use Rattle.state.specs.View.{answerView};
 use tables::Estimate;
 use threads::Thread;
 
 // What the call behind the state answered: `number` is that of a refusal, with its row, or 0. `event` is what a call that was not
-// refused did: BROUGHT a root's line, SILENT, or PERFORMED a right on a target. `site` is the root's line, or the thread's site.
+// refused did: BROUGHT or WITHDRAWN an arrival, SILENT, or PERFORMED a right on a target. `site` is the line of the arrival's root,
+// or the thread's site.
 pub struct Told {
     pub number: u8,
     pub row: usize,
@@ -24,6 +25,8 @@ pub const BROUGHT: u8 = 0;
 pub const SILENT: u8 = 1;
 
 pub const PERFORMED: u8 = 2;
+
+pub const WITHDRAWN: u8 = 3;
 
 // A net but for its lines, as `tables::Net` has it.
 pub struct Ground {
@@ -83,6 +86,20 @@ pub fn brought(root: u8) -> Told
         number: 0,
         row: 0,
         event: BROUGHT,
+        site: root,
+        target: 0,
+        right: 0,
+    }
+}
+
+// An arrival withdrawn, its root's line.
+pub fn withdrawn(root: u8) -> Told
+    ensures { λ t. ⌜ answerView t ≡ gives (withdrawnOf root) ⌝ }
+{
+    Told {
+        number: 0,
+        row: 0,
+        event: WITHDRAWN,
         site: root,
         target: 0,
         right: 0,

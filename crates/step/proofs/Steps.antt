@@ -26,9 +26,9 @@ use Rattle.state.specs.declared.Told.{Told}
 use Rattle.state.specs.declared.State.{State}
 use Rattle.state.specs.View.{groundView, stateView, answerView, resultView}
 use Rattle.state.specs.declared.Run.{Run}
-use Rattle.state.specs.Fits.{soundAt, Fits}
+use Rattle.state.specs.Fits.{Fits}
 use Rattle.state.specs.Lent.{Parts, goneOn}
-use Rattle.state.proofs.Lent.{joined, of-joined}
+use Rattle.state.proofs.Lent.{joined, of-joined, fits-on, answering-fits}
 use Rattle.plan.specs.Move.{tuplesAfter, stateAfter, planView}
 use Rattle.plan.proofs.Fitted.{thread-here}
 use Rattle.step.specs.declared.Decision.{Decision}
@@ -81,29 +81,13 @@ pub step-plan : (guarded : Bool) (st : Spec.State) (k m r : ℕ) (th : Spec.Thre
 unfolding step stepOf
 step-plan guarded st k m r th e p = rw (e, p)
 
--- a state that has gone on keeps what is its own of the invariant
-fits-on : (st : State) (tuples : List ℕ) (run : Run) → Fits st → length tuples ≡ 1536 → run .nthreads ≤ 64 → Invariant (stateView (goneOn st tuples run)) → Fits (goneOn st tuples run)
-unfolding stateView soundAt
-fits-on st tuples run f long few i = record {
-  lines-long = f .lines-long;
-  arrivals-long = f .arrivals-long;
-  sound-long = f .sound-long;
-  tuples-long = long;
-  threads-few = few;
-  own-few = f .own-few;
-  arrivals-few = f .arrivals-few;
-  sound-is = f .sound-is;
-  invariant = i;
-}
-
 -- a step that is refused
 pub stepped-no : (guarded : Bool) (st : State) (k m r : ℕ) (next : Run) {number : ℕ} → Fits st → step guarded (stateView st) k m r ≡ Engine.refuse number 0 (stateView st) → Refusing (st .run) number next → Stepped guarded st k m r (goneOn st (st .tuples) next)
 unfolding resultView stateView
 stepped-no guarded st k m r next f e x =
-    let run = st .run in
     subst (λ (z : Run). Stepped guarded st k m r (goneOn st (st .tuples) z)) (sym (x .kept)) record {
       result = ap (λ (a : Answer Event). record { answer = a; state = stateView st }) (x .answer) ∙ sym e;
-      fits = fits-on st (st .tuples) (record { threads = run .threads; nthreads = run .nthreads; ntuples = run .ntuples; told = next .told }) f (f .tuples-long) (f .threads-few) (f .invariant);
+      fits = answering-fits st f (next .told);
     }
 
 -- a step that is not

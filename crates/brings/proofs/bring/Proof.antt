@@ -2,8 +2,8 @@ use mathlib.Core.Path.{_≡_, refl}
 use Prim.Native.Nat.{_+_, _<_, _≤_}
 use native.Mathlib.Omega.{arith}
 use Rattle.state.specs.View.{stateView}
-use Rattle.state.specs.Fits.{soundAt}
 use Rattle.state.proofs.Few.{sites-few}
+use Rattle.state.proofs.Lent.{answering-fits}
 use Rattle.brings.proofs.Laws.{sized, refused-bring, some-line, few, arrival-ordered, root-form, joined-brought}
 use borrow.Author.Needs.{needs, length-unmapped}
 use lib.ListN.{length}
@@ -32,11 +32,11 @@ refused-requires : tie.Need-refused-requires
 refused-requires c κs = search needs
 
 returns : tie.Need-returns
-unfolding stateView soundAt
+unfolding stateView
 returns c =
     let f = c .before .before .before .before .before .pre in
     let r = c .before .before .read-arrival in
-    refused-bring _ f _ (r .result) (r .ensures) (c .before .if1 .taken) _ refl (c .refused .ensures) (record { lines-long = f .lines-long; arrivals-long = f .arrivals-long; sound-long = f .sound-long; tuples-long = f .tuples-long; threads-few = f .threads-few; own-few = f .own-few; arrivals-few = f .arrivals-few; sound-is = f .sound-is; invariant = f .invariant })
+    refused-bring _ f _ (r .result) (r .ensures) (c .before .if1 .taken) _ refl (c .refused .ensures) (answering-fits _ f _)
 
 append-moved-requires : tie.Need-append-moved-requires
 append-moved-requires c κs =

@@ -1,4 +1,4 @@
-use Rattle.repeats.proofs.Tuples.{any-yes, any-no, any-end}
+use Rattle.sets.proofs.Shared.{any-yes, any-no, any-end}
 use Rattle.repeats.specs.Kept.{rootSame}
 use Rattle.tables.specs.View.{rootAt, rootsView}
 use Rattle.sets.specs.Lists.{any, table}

@@ -12,8 +12,11 @@ slice-aggregate-bring c = front-long _ (c .before .before .before .args .rest .n
 bring-requires : tie.Need-bring-requires
 bring-requires c κs = search needs
 
-say-brought-requires : tie.Need-say-brought-requires
-say-brought-requires c κs = search needs
+slice-aggregate-say-root : tie.Need-slice-aggregate-say-root
+slice-aggregate-say-root c = search needs
+
+say-root-requires : tie.Need-say-root-requires
+say-root-requires c κs = search needs
 
 returns : tie.Need-returns
 returns c = search needs
@@ -21,4 +24,10 @@ returns c = search needs
 pub fetch-spec : {M : Type 1} → statement M
 fetch-spec =
     tie.close
-    (tie.spec before-requires slice-aggregate-bring bring-requires say-brought-requires returns)
+    (tie.spec
+    before-requires
+    slice-aggregate-bring
+    bring-requires
+    slice-aggregate-say-root
+    say-root-requires
+    returns)
