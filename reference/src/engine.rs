@@ -1,4 +1,4 @@
-//! The engine: start, bring, bare and guarded steps, the door, ready.
+//! The engine: start, bring, withdraw, bare and guarded steps, the door, ready.
 
 use crate::flow::{read_both, sound_sites, use_map};
 use crate::rows::*;
@@ -13,6 +13,10 @@ pub const NO_ARRIVAL: u8 = 24;
 pub const DOOR_CLOSED: u8 = 25;
 pub const NO_RIGHT: u8 = 26;
 pub const NO_ROOM: u8 = 27;
+
+/// Numbers of the refusals of a withdrawal (document 02, No. 8).
+pub const NONE_BROUGHT: u8 = 35;
+pub const LINES_IN_USE: u8 = 36;
 
 /// A site or none for each variable.
 #[derive(Clone, Copy, PartialEq, Eq, Debug)]
@@ -145,6 +149,20 @@ impl State {
         }
         let sound = sound_sites(&self.net, &self.estimate, present);
         self.arrivals.push(Arrival { root, sound });
+        Ok(root)
+    }
+
+    /// "Withdraws the newest arrival; its lines become free again." They are
+    /// those from its root on. Answers the root's line number. 35 while the
+    /// state has no arrival, then 36 while a thread stands on one of the lines,
+    /// row 0 each; a refusal changes nothing.
+    pub fn withdraw(&mut self) -> Result<u8, Refusal> {
+        let root = self.arrivals.last().ok_or(Refusal::whole(NONE_BROUGHT))?.root;
+        if self.threads.iter().any(|thread| thread.line >= root) {
+            return Err(Refusal::whole(LINES_IN_USE));
+        }
+        self.arrivals.truncate(self.arrivals.len() - 1);
+        self.net.lines.truncate(usize::from(root));
         Ok(root)
     }
 

@@ -107,6 +107,10 @@ fn answer(state: &mut State, row: &[u8]) -> Vec<u8> {
             Some(k) => write_text(&mut out, &format!("ready,{k}\n")),
             None => write_text(&mut out, "ready,none\n"),
         },
+        _ if row == b"withdraw" => match state.withdraw() {
+            Ok(root) => write_text(&mut out, &format!("withdrawn,{root}\n")),
+            Err(refusal) => write_refusal(&mut out, refusal),
+        },
         _ => write_text(&mut out, "bad command\n"),
     }
     out

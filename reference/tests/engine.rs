@@ -1,29 +1,10 @@
-//! Engine scripts: net M with two arrivals, full lists, bring and bindings.
+//! Engine scripts: net M with two arrivals, full lists, bring and withdraw,
+//! bindings.
 
 mod common;
 use common::*;
 use reference::engine::State;
 use reference::script;
-
-fn run(net: &str, estimate: &str, commands: &str) -> Vec<String> {
-    let input = format!("{}.\n{}.\n{}", rows(net), rows(estimate), rows(commands));
-    lines_of(&script::run(input.as_bytes()))
-}
-
-fn lines_of(out: &[u8]) -> Vec<String> {
-    String::from_utf8(out.to_vec()).unwrap().lines().map(str::to_string).collect()
-}
-
-/// Runs commands and compares each answer; gives back the rows of the state.
-fn expect(net: &str, estimate: &str, commands: &[(&str, &str)]) -> Vec<String> {
-    let words: Vec<&str> = commands.iter().map(|(command, _)| *command).collect();
-    let out = run(net, estimate, &words.join(" "));
-    assert_eq!(out[0], "started");
-    for (at, (command, answer)) in commands.iter().enumerate() {
-        assert_eq!(out[at + 1], *answer, "command {at}: {command}");
-    }
-    out[commands.len() + 1..].to_vec()
-}
 
 const BRING_READER: &str = "bring Q,0,rep,1 Q,1,read,2,s2,s3,!u1 Q,2,nil .";
 const BRING_WRITER: &str = "bring Q,0,out,1,s0,s4 Q,1,nil .";
@@ -374,4 +355,256 @@ fn refused_calls_change_nothing() {
     assert_eq!(state, before);
     assert!(state.guarded_step(0, 0, 0).is_ok());
     assert_ne!(state, before);
+}
+
+/// A warehouse at s0 takes in agents under sandbox 0, one after the other, for
+/// the ledger at s1. Its lines are 0 to 2.
+const HOUSE: &str = "N,3 D,0,s1,or T,s1,s2 L,s0,0 Q,0,rep,1 Q,1,accept,2,0 Q,2,nil";
+const HOUSE_ESTIMATE: &str = "B,u0,s2 A,s1,s2 E,s2,s1,r";
+
+/// Agents of a carrier: one that the door passes, and one that it does not.
+const BRING_CLERK: &str = "bring Q,0,read,1,s1,!u0 Q,1,out,2,s1,u0 Q,2,nil .";
+const BRING_THIEF: &str = "bring Q,0,in,1,s1,!u0 Q,1,nil .";
+
+/// 35 looks at the arrivals alone: a refused bring adds none.
+#[test]
+fn nothing_to_withdraw() {
+    expect(
+        HOUSE,
+        HOUSE_ESTIMATE,
+        &[
+            ("withdraw", "refused,35,0"),
+            ("step,0,0,0", "silent"),
+            ("withdraw", "refused,35,0"),
+            ("bring .", "refused,5,0"),
+            ("withdraw", "refused,35,0"),
+            (BRING_CLERK, "brought,3"),
+            ("bring X .", "refused,1,1"),
+            ("withdraw", "withdrawn,3"),
+            ("withdraw", "refused,35,0"),
+            ("withdraw", "refused,35,0"),
+        ],
+    );
+    expect("N,1", "", &[("withdraw", "refused,35,0")]);
+}
+
+/// An arrival taken in stands on its root, then on a later line, then it has
+/// run to its end.
+#[test]
+fn withdraw_when_no_thread_stands_on_the_arrival() {
+    let state = expect(
+        HOUSE,
+        HOUSE_ESTIMATE,
+        &[
+            (BRING_CLERK, "brought,3"),
+            ("step,0,0,0", "silent"),
+            ("step,1,0,3", "performed,s0,s0,a"),
+            ("withdraw", "refused,36,0"),
+            ("step,1,0,0", "performed,s0,s1,r"),
+            ("withdraw", "refused,36,0"),
+            ("step,1,0,0", "performed,s0,s1,o"),
+            ("withdraw", "withdrawn,3"),
+            ("withdraw", "refused,35,0"),
+        ],
+    );
+    let thread = format!("thread,s0,{},0,-", "00".repeat(32));
+    assert_eq!(state, ["state,1,2,3", &thread, "tuple,s1,s2", "tuple,s1,s2", "lines,3", "roots"]);
+}
+
+/// A thread of the arrival counts wherever it runs: here its eval body does,
+/// at another site, when the arrival's own thread has ended.
+#[test]
+fn a_body_sent_elsewhere_blocks_a_withdrawal() {
+    expect(
+        "N,3 D,0,s2,e D,1,s1,r T,s1,s2 L,s0,0 Q,0,accept,1,0 Q,1,nil",
+        HOUSE_ESTIMATE,
+        &[
+            ("bring Q,0,eval,1,s2,2,1 Q,1,nil Q,2,read,3,s1,s2 Q,3,nil .", "brought,2"),
+            ("step,0,0,2", "performed,s0,s0,a"),
+            ("step,0,0,0", "performed,s0,s2,e"),
+            ("withdraw", "refused,36,0"),
+            ("step,0,0,0", "performed,s2,s1,r"),
+            ("withdraw", "withdrawn,2"),
+        ],
+    );
+}
+
+/// A `rep` line is never left.
+#[test]
+fn a_thread_on_rep_blocks_each_withdrawal() {
+    let bring = "bring Q,0,rep,1 Q,1,read,2,s1,_ Q,2,nil .";
+    expect(
+        HOUSE,
+        HOUSE_ESTIMATE,
+        &[
+            (bring, "brought,3"),
+            ("step,0,0,0", "silent"),
+            ("step,1,0,3", "performed,s0,s0,a"),
+            ("withdraw", "refused,36,0"),
+            ("step,1,0,0", "silent"),
+            ("step,2,0,0", "performed,s0,s1,r"),
+            ("withdraw", "refused,36,0"),
+            (bring, "brought,6"),
+            ("withdraw", "withdrawn,6"),
+            ("withdraw", "refused,36,0"),
+        ],
+    );
+}
+
+/// The newest arrival goes first, whatever stands on older ones.
+#[test]
+fn arrivals_are_withdrawn_from_the_newest_on() {
+    let state = expect(
+        HOUSE,
+        HOUSE_ESTIMATE,
+        &[
+            (BRING_CLERK, "brought,3"),
+            (BRING_THIEF, "brought,6"),
+            ("step,0,0,0", "silent"),
+            ("step,1,0,3", "performed,s0,s0,a"),
+            (BRING_CLERK, "brought,8"),
+            ("withdraw", "withdrawn,8"),
+            ("withdraw", "withdrawn,6"),
+            ("withdraw", "refused,36,0"),
+            ("step,1,0,0", "performed,s0,s1,r"),
+            (BRING_THIEF, "brought,6"),
+            ("withdraw", "withdrawn,6"),
+            ("withdraw", "refused,36,0"),
+            ("step,1,0,0", "performed,s0,s1,o"),
+            (BRING_THIEF, "brought,6"),
+        ],
+    );
+    assert_eq!(state[state.len() - 2..], ["lines,8", "roots,3,6"]);
+}
+
+/// A number that came free is no root until it is given again; the door then
+/// judges the lines that it was given to.
+#[test]
+fn numbers_given_again() {
+    expect(
+        HOUSE,
+        HOUSE_ESTIMATE,
+        &[
+            ("step,0,0,0", "silent"),
+            (BRING_CLERK, "brought,3"),
+            ("door,3,0,0", "passes"),
+            ("withdraw", "withdrawn,3"),
+            ("door,3,0,0", "refused,24,0"),
+            ("step,1,0,3", "refused,24,0"),
+            ("guarded,1,0,3", "refused,24,0"),
+            (BRING_THIEF, "brought,3"),
+            ("door,3,0,0", "closed"),
+            ("step,1,0,3", "refused,25,0"),
+            ("withdraw", "withdrawn,3"),
+            ("bring Q,0,nil .", "brought,3"),
+            (BRING_CLERK, "brought,4"),
+            ("door,3,0,0", "passes"),
+            ("door,4,0,0", "passes"),
+            ("step,1,0,4", "performed,s0,s0,a"),
+            ("step,1,0,0", "performed,s0,s1,r"),
+        ],
+    );
+}
+
+#[test]
+fn ready_looks_at_the_arrivals_left() {
+    expect(
+        "N,3 D,0,s1,or T,s1,s2 L,s0,0 Q,0,accept,1,0 Q,1,nil",
+        HOUSE_ESTIMATE,
+        &[
+            ("ready", "ready,none"),
+            (BRING_THIEF, "brought,2"),
+            ("ready", "ready,none"),
+            (BRING_CLERK, "brought,4"),
+            ("ready", "ready,0"),
+            ("withdraw", "withdrawn,4"),
+            ("ready", "ready,none"),
+        ],
+    );
+}
+
+/// "Lines fill up over a season."
+#[test]
+fn lines_become_free_again() {
+    let chain: String = (0..252).map(|at| format!("Q,{at},rep,{} ", at + 1)).collect();
+    let (full, over) =
+        (format!("bring {chain} Q,252,nil ."), format!("bring {chain} Q,252,rep,253 Q,253,nil ."));
+    let mut commands: Vec<(&str, &str)> = vec![(&over, "refused,2,254")];
+    for _ in 0..5 {
+        commands.extend([
+            (full.as_str(), "brought,3"),
+            ("bring Q,0,nil .", "refused,2,1"),
+            ("withdraw", "withdrawn,3"),
+            (BRING_CLERK, "brought,3"),
+            (&full, "refused,2,251"),
+            ("withdraw", "withdrawn,3"),
+        ]);
+    }
+    let state = expect(HOUSE, HOUSE_ESTIMATE, &commands);
+    assert_eq!(state[0], "state,1,1,3");
+}
+
+/// 253 arrivals of one line each, so that the last one is line 255.
+#[test]
+fn every_number_up_to_the_last_comes_free() {
+    let mut singles: Vec<(&str, String)> =
+        (3..256).map(|root| ("bring Q,0,nil .", format!("brought,{root}"))).collect();
+    singles.push(("bring Q,0,nil .", "refused,2,1".to_string()));
+    singles.extend((3..256).rev().map(|root| ("withdraw", format!("withdrawn,{root}"))));
+    singles.push(("withdraw", "refused,35,0".to_string()));
+    let singles: Vec<(&str, &str)> = singles.iter().map(|(c, a)| (*c, a.as_str())).collect();
+    expect(HOUSE, HOUSE_ESTIMATE, &singles);
+}
+
+/// "A bring that was not refused, directly followed by a withdrawal, leaves
+/// the state equal to the one before"; what is refused keeps it.
+#[test]
+fn bring_and_withdraw_leave_the_state() {
+    let arrival = |words: &str| rows(words.trim_start_matches("bring ").trim_end_matches(" ."));
+    let (clerk, thief) = (arrival(BRING_CLERK), arrival(BRING_THIEF));
+    let mut state = State::start(rows(HOUSE).as_bytes(), rows(HOUSE_ESTIMATE).as_bytes()).unwrap();
+    let both = |state: &mut State, text: &str, root: u8| {
+        let before = state.clone();
+        assert_eq!(state.bring(text.as_bytes()), Ok(root));
+        assert_ne!(*state, before);
+        assert_eq!(state.withdraw(), Ok(root));
+        assert_eq!(*state, before);
+    };
+    let refused = |state: &mut State, number: u8| {
+        let before = state.clone();
+        let refusal = state.withdraw().unwrap_err();
+        assert_eq!((refusal.number, refusal.row), (number, 0));
+        assert_eq!(*state, before);
+    };
+    refused(&mut state, 35);
+    both(&mut state, &clerk, 3);
+    assert_eq!(state.bring(clerk.as_bytes()), Ok(3));
+    both(&mut state, &thief, 6);
+    state.step(0, 0, 0).unwrap();
+    state.step(1, 0, 3).unwrap();
+    refused(&mut state, 36);
+    both(&mut state, &thief, 6);
+    state.step(1, 0, 0).unwrap();
+    refused(&mut state, 36);
+    both(&mut state, &clerk, 6);
+    // Both numbers are given to other lines than before.
+    state.step(1, 0, 0).unwrap();
+    assert_eq!(state.withdraw(), Ok(3));
+    assert_eq!(state.bring(thief.as_bytes()), Ok(3));
+    both(&mut state, &clerk, 5);
+}
+
+/// The command is that one row, and between `bring` and its `.` a row of the
+/// arrival.
+#[test]
+fn withdraw_as_a_row() {
+    let commands = "withdraw,\nwithdraw,0\nwithdraw,0,0,0\nWithdraw\nwithdraw \n withdraw\n\
+        withdraw\r\nwithdrawn\nbring\nwithdraw\n.\nbring\nQ,0,nil\nwithdraw\n.\nwithdraw\n\
+        bring\nQ,0,nil\n.\nwithdraw\nwithdraw";
+    let out = lines_of(&script::run(format!("N,1\n.\n.\n{commands}").as_bytes()));
+    let mut expected = vec!["started"];
+    expected.extend(["bad command"; 8]);
+    expected.extend(["refused,1,1", "refused,1,2", "refused,35,0", "brought,0", "withdrawn,0"]);
+    expected.extend(["bad command", "state,0,0,0", "lines,0", "roots"]);
+    assert_eq!(out, expected);
 }

@@ -21,6 +21,18 @@ fn table() {
     assert_eq!(net("N,1 Q,0,out,1,u3,s0 Q,1,nil"), "refused,6,0");
 }
 
+/// Document 02, No. 8: 35 while the state has no arrival, then 36 while a thread
+/// stands on one of the newest one's lines.
+#[test]
+fn withdrawals() {
+    let net = "N,1 L,s0,0 Q,0,accept,1,0 Q,1,nil";
+    let arrival = "bring Q,0,rep,1 Q,1,nil .";
+    expect(net, "", &[("withdraw", "refused,35,0")]);
+    expect(net, "", &[(arrival, "brought,2"), ("withdraw", "withdrawn,2")]);
+    let taken_in = [(arrival, "brought,2"), ("step,0,0,2", "performed,s0,s0,a")];
+    expect(net, "", &[taken_in[0], taken_in[1], ("withdraw", "refused,36,0")]);
+}
+
 /// Rows that have the form of no group.
 const MALFORMED: &[&str] = &[
     "N",

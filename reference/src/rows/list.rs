@@ -30,6 +30,12 @@ impl<T: Copy, const N: usize> List<T, N> {
         self.items.copy_within(at + 1..self.len, at);
         self.len -= 1;
     }
+
+    /// Keeps the first `len` items. What the places behind them hold counts in
+    /// no comparison.
+    pub fn truncate(&mut self, len: usize) {
+        self.len = self.len.min(len);
+    }
 }
 
 impl<T: Copy, const N: usize> Deref for List<T, N> {

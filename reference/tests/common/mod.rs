@@ -1,4 +1,4 @@
-//! Net M of document 01 and helpers for texts written as words.
+//! Net M of document 01 and helpers for texts and scripts written as words.
 
 #![allow(dead_code)]
 
@@ -28,4 +28,25 @@ pub fn text_listing(input: &str) -> String {
     let out = String::from_utf8(reference::listing::list(input.as_bytes())).unwrap();
     assert!(out.ends_with('\n'));
     out.trim_end().replace('\n', " ")
+}
+
+/// The rows that a script prints.
+pub fn run(net: &str, estimate: &str, commands: &str) -> Vec<String> {
+    let input = format!("{}.\n{}.\n{}", rows(net), rows(estimate), rows(commands));
+    lines_of(&reference::script::run(input.as_bytes()))
+}
+
+pub fn lines_of(out: &[u8]) -> Vec<String> {
+    String::from_utf8(out.to_vec()).unwrap().lines().map(str::to_string).collect()
+}
+
+/// Runs commands and compares each answer; gives back the rows of the state.
+pub fn expect(net: &str, estimate: &str, commands: &[(&str, &str)]) -> Vec<String> {
+    let words: Vec<&str> = commands.iter().map(|(command, _)| *command).collect();
+    let out = run(net, estimate, &words.join(" "));
+    assert_eq!(out[0], "started");
+    for (at, (command, answer)) in commands.iter().enumerate() {
+        assert_eq!(out[at + 1], *answer, "command {at}: {command}");
+    }
+    out[commands.len() + 1..].to_vec()
 }
