@@ -10,6 +10,7 @@ use super::nets::{accepted, widen, Style, LISTING};
 use super::process::{template, BUSY};
 use super::rng::Rng;
 use super::scripts;
+use super::seasons::add_accepting_thread;
 use super::text::{bytes, estimate_rows, net_rows};
 use super::wildcards::add_taken_row;
 use crate::engine::{Done, State};
@@ -267,6 +268,10 @@ fn plain_door(state: &State, r: usize, end: usize, l: Site, d: u8) -> bool {
         && (0..SITES).all(|t| plain_use(&net, estimate, r, t) & !evaluated(&net, d, l, t) == 0)
 }
 
+fn begun(net: &Net, estimate: &Estimate) -> State {
+    State::start(&bytes(&net_rows(net)), &bytes(&estimate_rows(estimate))).unwrap()
+}
+
 #[test]
 fn door_agrees_with_the_plain_one() {
     let style = Style { weights: BUSY, max_lines: 20, sandbox_rows: 8, widened: 90, ..LISTING };
@@ -275,8 +280,7 @@ fn door_agrees_with_the_plain_one() {
         let rng = &mut Rng::new(seed);
         let style = varied(seed, style);
         let (net, estimate) = accepted(rng, &style);
-        let texts = (bytes(&net_rows(&net)), bytes(&estimate_rows(&estimate)));
-        let mut state = State::start(&texts.0, &texts.1).unwrap();
+        let mut state = begun(&net, &estimate);
         for _ in 0..4 {
             scripts::bring_friendly(rng, &mut state, style.wildcards);
         }
@@ -321,26 +325,37 @@ fn state_is_within(state: &State) -> bool {
 }
 
 /// What demand 3 says of accepted nets: a performed step that the policies
-/// forbid is in the report, and all stays within the estimate.
+/// forbid is in the report, and all stays within the estimate. Every other net
+/// has withdrawals in its run, and a thread that takes arrivals in.
 #[test]
 fn forbidden_steps_are_reported() {
     let style = Style { weights: BUSY, sandbox_rows: 6, widened: 80, ..LISTING };
-    let (mut performed, mut forbidden) = (0, 0);
+    let (mut performed, mut forbidden, mut withdrawn, mut behind) = (0, 0, 0, 0);
     for seed in 0..NETS {
         let rng = &mut Rng::new(seed);
         let style = varied(seed, style);
-        let (net, estimate) = accepted(rng, &style);
+        let (mut net, mut estimate) = accepted(rng, &style);
+        let withdraws = seed % 2 == 1;
+        if withdraws {
+            add_accepting_thread(rng, &mut net, &mut estimate);
+        }
         let report = flow::report(&net, &estimate, &flow::net_places(&net, &estimate));
-        let texts = (bytes(&net_rows(&net)), bytes(&estimate_rows(&estimate)));
-        let mut state = State::start(&texts.0, &texts.1).unwrap();
+        let mut state = begun(&net, &estimate);
+        let mut given_again = MAX_LINES;
         for turn in 0..120 {
-            if turn % 15 == 0 {
+            if turn % 15 == 0 || (withdraws && rng.chance(10)) {
                 scripts::bring_friendly(rng, &mut state, style.wildcards);
+            }
+            if withdraws && rng.chance(15) {
+                let root = state.withdraw().map_or(MAX_LINES, usize::from);
+                withdrawn += usize::from(root < MAX_LINES);
+                given_again = given_again.min(root);
             }
             let Some((k, m, r)) = scripts::performing_step(rng, &state, false) else {
                 continue;
             };
             let permitted = state.judge(true, k, m, r).is_ok();
+            behind += usize::from(usize::from(state.threads[k].line) >= given_again);
             if let Ok(Done::Acted { site, target, right }) = state.step(k, m, r) {
                 performed += 1;
                 forbidden += usize::from(!permitted);
@@ -350,10 +365,14 @@ fn forbidden_steps_are_reported() {
             assert!(state_is_within(&state), "seed {seed}, turn {turn}");
         }
     }
-    assert!(performed > 2000 && forbidden > 200);
+    let counts = (performed, forbidden, withdrawn, behind);
+    assert!(performed > 2000 && forbidden > 200 && withdrawn > 500 && behind > 500, "{counts:?}");
 }
 
-fn refusals(out: &[u8], seen: &mut [usize; 32]) {
+/// One past the greatest number of a refusal.
+const NUMBERS: usize = 37;
+
+fn refusals(out: &[u8], seen: &mut [usize; NUMBERS]) {
     for row in String::from_utf8_lossy(out).lines() {
         let mut fields = row.split(',');
         if fields.next() == Some("refused") {
@@ -365,16 +384,17 @@ fn refusals(out: &[u8], seen: &mut [usize; 32]) {
 
 #[test]
 fn every_number_is_met() {
-    let mut seen = [0; 32];
+    let mut seen = [0; NUMBERS];
     for seed in 0..NETS {
         refusals(&listing::list(&listings::case(&mut Rng::new(seed))), &mut seen);
     }
     assert!((1..=8).all(|number| seen[number] > 2), "{seen:?}");
-    let mut seen = [0; 32];
+    let mut seen = [0; NUMBERS];
     for seed in 0..NETS / 4 {
         refusals(&script::run(&scripts::case(&mut Rng::new(seed))), &mut seen);
     }
-    assert!((1..=8).chain(21..=27).all(|number| seen[number] > 2), "{seen:?}");
+    let numbers = (1..=8).chain(21..=27).chain(35..=36);
+    assert!(numbers.into_iter().all(|number| seen[number] > 2), "{seen:?}");
 }
 
 #[test]

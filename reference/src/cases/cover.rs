@@ -1,6 +1,7 @@
 //! What cases cover: a count for each thing that is seen to happen in them.
 
 use super::cover_wildcards as wildcards;
+use super::cover_withdrawals::History;
 use super::required::{required, Wanted};
 use super::shares::is_half;
 use super::Kind;
@@ -219,12 +220,12 @@ impl Watcher {
             Err(refusal) => return self.note(format!("start: refused {}", refusal.number)),
         };
         self.note("start: taken");
-        let mut taken_in = BTreeSet::new();
+        let mut history = History::default();
         while let Some(command) = script::next_command(&mut commands) {
             let before = state.clone();
             let answer = script::obey(&mut state, &command);
             let answer = String::from_utf8_lossy(&answer);
-            self.command(&before, &state, &command, answer.trim_end(), &mut taken_in);
+            self.command(&before, &state, &command, answer.trim_end(), &mut history);
         }
     }
 
@@ -234,9 +235,11 @@ impl Watcher {
         after: &State,
         command: &Command,
         answer: &str,
-        taken_in: &mut BTreeSet<usize>,
+        history: &mut History,
     ) {
         let fields: Vec<&str> = answer.split(',').collect();
+        let withdrawals = history.follow(before, after, command, &fields);
+        withdrawals.into_iter().for_each(|name| self.note(format!("withdraw: {name}")));
         let (name, numbers) = match command {
             Command::Bring(_) => ("bring", None),
             Command::Row(b"ready") => ("ready", None),
@@ -256,7 +259,7 @@ impl Watcher {
             }
             (_, Some([k, m, r]), _) => {
                 self.step(name, before, [k, m, r], &fields);
-                if fields[0] == "performed" && fields[3] == "a" && !taken_in.insert(r) {
+                if fields[0] == "performed" && fields[3] == "a" && history.take_in(r) {
                     self.note("accept: an arrival taken in again");
                 }
                 self.lists(before, after);

@@ -2,12 +2,16 @@
 
 mod arrivals;
 mod big;
+mod carriers;
 #[cfg(test)]
 mod checks;
 #[cfg(test)]
 mod checks_wildcards;
+#[cfg(test)]
+mod checks_withdrawals;
 pub mod cover;
 mod cover_wildcards;
+mod cover_withdrawals;
 mod damage;
 pub mod frames;
 pub mod heavy;
@@ -19,6 +23,7 @@ mod process;
 mod required;
 mod rng;
 mod scripts;
+mod seasons;
 mod shares;
 pub mod stored;
 mod text;

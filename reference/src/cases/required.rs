@@ -60,6 +60,8 @@ pub fn required(kind: Kind) -> Vec<Wanted> {
             all.extend(read.map(|what| wildcard(format!("{what}, performed"))));
             all.extend(wildcards_refused("bring").into_iter().map(wildcard));
             all.extend(WILDCARD_SCRIPTS.map(wildcard));
+            all.extend(WITHDRAWALS.map(|what| often(format!("withdraw: {what}"))));
+            all.extend(RARE_WITHDRAWALS.map(|what| some(format!("withdraw: {what}"))));
         }
     }
     all
@@ -144,6 +146,63 @@ const WILDCARD_SCRIPTS: [&str; 24] = [
     "accept refused 25",
     "ready finds it",
     "ready passes over it",
+];
+
+const WITHDRAWALS: [&str; 46] = [
+    "refused 35",
+    "refused 35, nothing was brought",
+    "refused 35, all were withdrawn",
+    "refused 35, behind a refused bring",
+    "refused 35, directly behind one",
+    "refused 35, directly behind a refusal",
+    "refused 36",
+    "refused 36, a thread on the root",
+    "refused 36, threads on later lines alone",
+    "refused 36, by one thread of several",
+    "refused 36, by the last of several",
+    "refused 36, by the last of 64",
+    "refused 36, behind a refused bring",
+    "refused 36, directly behind one",
+    "refused 36, directly behind a refusal",
+    "done, no thread",
+    "done, 64 threads",
+    "done, a thread on an older arrival",
+    "done, a thread elsewhere",
+    "done, directly behind bring",
+    "done, behind a refused bring",
+    "done, directly behind one",
+    "done, taken in and run to its end",
+    "done, never taken in",
+    "done, another is left",
+    "done, three or more in a row, down to none",
+    "done, of 256 lines",
+    "bring refused 1, a row withdraw",
+    "bring refused 2, for want of lines",
+    "brought, refused with 2 before a withdrawal",
+    "brought, a number given again to other lines",
+    "brought, a number given again to the same lines",
+    "door refused 24, root withdrawn",
+    "step refused 24, root withdrawn",
+    "guarded refused 24, root withdrawn",
+    "door, another answer for a number given again",
+    "accept refused 25, a number given again",
+    "accept performed, a number given again",
+    "performed, a line whose number had another",
+    "ready, another place than before",
+    "more than 256 lines in all",
+    "1,024 lines in all",
+    "bad command `withdraw,`",
+    "bad command `withdraw,0`",
+    "bad command `Withdraw`",
+    "bad command `withdraw `",
+];
+
+const RARE_WITHDRAWALS: [&str; 5] = [
+    "refused 36, by the first of several",
+    "done, line 0",
+    "done, line 255",
+    "1,024 lines in all, in short arrivals",
+    "1,024 lines in all, in long arrivals",
 ];
 
 /// Every set of rights but the empty one, which has no V row.

@@ -6,12 +6,13 @@ use super::damage::{harm_lines, harm_rows, swap_child};
 use super::nets::{accepted, close, shape, Style, LISTING};
 use super::process::{Maker, BUSY, PLAIN};
 use super::rng::Rng;
+use super::seasons;
 use super::text::{arrival_rows, bytes, estimate_rows, net_rows, Rows};
 use super::wildcards::{add_twins, harm_wildcard, unbind};
 use crate::engine::{Done, State, MAX_THREADS};
 use crate::rows::*;
 
-const STYLE: Style = Style {
+pub const STYLE: Style = Style {
     weights: BUSY,
     max_lines: 50,
     max_roots: 6,
@@ -21,8 +22,11 @@ const STYLE: Style = Style {
     ..LISTING
 };
 
-/// How many of a hundred seeds have wildcards.
+/// How many of a hundred seeds have wildcards, if they have no withdrawals.
 const WILDCARD_SEEDS: usize = 14;
+
+/// How many of a hundred seeds have withdrawals.
+const SEASON_SEEDS: usize = 17;
 
 const ODD_COMMANDS: &[&str] = &[
     "",
@@ -55,19 +59,22 @@ const ATTEMPTS: usize = 12;
 
 /// What a script tries to reach.
 #[derive(Clone, Copy, PartialEq)]
-enum Aim {
+pub enum Aim {
     Plain,
     FullThreads,
     FullTuples,
 }
 
-/// One input. Whether it has wildcards is drawn last, so that every other
-/// seed keeps its text.
+/// One input. Whether it has wildcards is drawn behind all else, and whether it
+/// has withdrawals behind that, so that every other seed keeps its text.
 pub fn case(rng: &mut Rng) -> Vec<u8> {
-    let text = of_style(rng, &STYLE);
+    let mut text = of_style(rng, &STYLE);
     if rng.chance(WILDCARD_SEEDS) {
         let style = STYLE.with_wildcards(rng);
-        return of_style(rng, &style);
+        text = of_style(rng, &style);
+    }
+    if rng.chance(SEASON_SEEDS) {
+        text = seasons::case(rng);
     }
     text
 }
@@ -85,13 +92,11 @@ fn of_style(rng: &mut Rng, style: &Style) -> Vec<u8> {
         harm_rows(rng, text, net.sites);
     }
     let (net_text, estimate_text) = (bytes(&net_text), bytes(&estimate_text));
-    let mut text = [&net_text[..], b".\n", &estimate_text[..], b".\n"].concat();
     let commands = match State::start(&net_text, &estimate_text) {
         Ok(state) => Writer { rng, state, wildcards: style.wildcards, text: vec![] }.write(aim),
         Err(_) => b"ready\nstep,0,0,0\n".to_vec(),
     };
-    text.extend_from_slice(&commands);
-    text
+    [&net_text[..], b".\n", &estimate_text, b".\n", &commands].concat()
 }
 
 /// Adds what the aim needs: a replicated `out`, tuples nearly up to the limit.
@@ -122,12 +127,13 @@ fn prepare(rng: &mut Rng, aim: Aim, net: &mut Net, estimate: &mut Estimate) {
     }
 }
 
-struct Writer<'a> {
-    rng: &'a mut Rng,
-    state: State,
+/// Writes commands, and follows what they do.
+pub struct Writer<'a> {
+    pub rng: &'a mut Rng,
+    pub state: State,
     /// Chance that a field of an arrival's template is a wildcard.
-    wildcards: usize,
-    text: Vec<u8>,
+    pub wildcards: usize,
+    pub text: Vec<u8>,
 }
 
 impl Writer<'_> {
@@ -150,12 +156,12 @@ impl Writer<'_> {
         self.text
     }
 
-    fn row(&mut self, row: &str) {
+    pub fn row(&mut self, row: &str) {
         self.text.extend_from_slice(row.as_bytes());
         self.text.push(b'\n');
     }
 
-    fn commands(&mut self, count: usize) {
+    pub fn commands(&mut self, count: usize) {
         for _ in 0..count {
             match self.rng.weighted(&[40, 22, 14, 7, 7, 8, 2]) {
                 0 => self.performing(false),
@@ -172,7 +178,7 @@ impl Writer<'_> {
         }
     }
 
-    fn step(&mut self, guarded: bool, k: usize, m: usize, r: usize) -> Option<Done> {
+    pub fn step(&mut self, guarded: bool, k: usize, m: usize, r: usize) -> Option<Done> {
         let name = if guarded { "guarded" } else { "step" };
         self.row(&format!("{name},{k},{m},{r}"));
         let result =
@@ -237,11 +243,7 @@ impl Writer<'_> {
             _ => vec![],
         };
         rows.retain(|row| row != b".");
-        let text = bytes(&rows);
-        self.row("bring");
-        self.text.extend_from_slice(&text);
-        self.row(".");
-        if let Ok(root) = self.state.bring(&text) {
+        if let Some(root) = self.bring_rows(&rows) {
             for _ in 0..self.rng.below(4) {
                 let (l, d) = doorway(self.rng, &self.state);
                 self.row(&format!("door,{root},{},{d}", l.0));
@@ -249,8 +251,17 @@ impl Writer<'_> {
         }
     }
 
+    /// Brings these rows, of which none is `.`; the root, if it is not refused.
+    pub fn bring_rows(&mut self, rows: &[Vec<u8>]) -> Option<usize> {
+        let text = bytes(rows);
+        self.row("bring");
+        self.text.extend_from_slice(&text);
+        self.row(".");
+        self.state.bring(&text).ok().map(usize::from)
+    }
+
     /// An arrival made without regard to the door.
-    fn stranger(&mut self) -> Vec<Line> {
+    pub fn stranger(&mut self) -> Vec<Line> {
         let n = self.state.net.sites;
         let mut shapes = self.state.estimate.tuples.to_vec();
         shapes.push(shape(self.rng, usize::from(n)));
@@ -271,7 +282,7 @@ impl Writer<'_> {
         maker.lines
     }
 
-    fn damaged_rows(&mut self) -> Rows {
+    pub fn damaged_rows(&mut self) -> Rows {
         let mut lines = self.stranger();
         if self.wildcards > 0 && self.rng.chance(65) {
             return harm_templates(self.rng, lines, self.state.net.sites);
@@ -307,7 +318,7 @@ impl Writer<'_> {
     }
 
     /// Steps until a list is full, and some steps more.
-    fn fill(&mut self, aim: Aim) {
+    pub fn fill(&mut self, aim: Aim) {
         for _ in 0..4 * MAX_THREADS {
             let full = self.state.threads.len() == MAX_THREADS || self.state.tuples.is_full();
             let places = self.filling(aim);
@@ -358,7 +369,7 @@ fn one_sided_step(rng: &mut Rng, state: &State) -> Option<(usize, usize, usize)>
 }
 
 /// The m and r with which thread k performs a step.
-fn choices(rng: &mut Rng, state: &State, guarded: bool, k: usize) -> Vec<(usize, usize)> {
+pub fn choices(rng: &mut Rng, state: &State, guarded: bool, k: usize) -> Vec<(usize, usize)> {
     let performs = |&(m, r): &(usize, usize)| state.judge(guarded, k, m, r).is_ok();
     match state.net.lines[usize::from(state.threads[k].line)] {
         Line::In { .. } | Line::Read { .. } => {
@@ -373,7 +384,7 @@ fn choices(rng: &mut Rng, state: &State, guarded: bool, k: usize) -> Vec<(usize,
 }
 
 /// Where an arrival may be taken in: a thread on accept, or any site.
-fn doorway(rng: &mut Rng, state: &State) -> (Site, usize) {
+pub fn doorway(rng: &mut Rng, state: &State) -> (Site, usize) {
     let mut doorways = Vec::new();
     for thread in state.threads.iter() {
         if let Line::Accept { sandbox, .. } = state.net.lines[usize::from(thread.line)] {
@@ -388,7 +399,7 @@ fn doorway(rng: &mut Rng, state: &State) -> (Site, usize) {
 }
 
 /// An arrival that passes the door somewhere, if one is found.
-fn friendly_rows(rng: &mut Rng, state: &State, wildcards: usize) -> Rows {
+pub fn friendly_rows(rng: &mut Rng, state: &State, wildcards: usize) -> Rows {
     let (l, d) = doorway(rng, state);
     let mut rows = arrival_rows(&[Line::Nil]);
     for _ in 0..ATTEMPTS {
@@ -416,13 +427,13 @@ fn harm_templates(rng: &mut Rng, mut lines: Vec<Line>, n: u8) -> Rows {
 }
 
 #[cfg(test)]
-pub fn bring_friendly(rng: &mut Rng, state: &mut State, wildcards: usize) {
+pub fn bring_friendly(rng: &mut Rng, state: &mut State, wildcards: usize) -> bool {
     let rows = friendly_rows(rng, state, wildcards);
-    let _ = state.bring(&bytes(&rows));
+    state.bring(&bytes(&rows)).is_ok()
 }
 
 /// A chain of `rep` lines that ends in nil; one line at least.
-fn chain(count: usize) -> Vec<Line> {
+pub fn chain(count: usize) -> Vec<Line> {
     let count = count.clamp(1, MAX_LINES);
     let mut lines: Vec<Line> = (1..count).map(|next| Line::Rep { next: next as u8 }).collect();
     lines.push(Line::Nil);

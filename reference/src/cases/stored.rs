@@ -1,7 +1,9 @@
 //! The cases of the stored runs: those of documents 01 and 02, those that print
-//! every set of rights but the empty one, those about a ledger's columns, and
-//! such seeds that every thing which can be seen in a case is seen several times.
+//! every set of rights but the empty one, those about a ledger's columns, those
+//! about a carrier's agents, and such seeds that every thing which can be seen
+//! in a case is seen several times.
 
+use super::carriers;
 use super::cover::{seen, Cover, Seen};
 use super::heavy::{ESTIMATE, NET};
 use super::ledgers;
@@ -82,7 +84,7 @@ fn as_bytes(texts: Vec<String>) -> Vec<Vec<u8>> {
 pub fn fixed(kind: Kind) -> Vec<Vec<u8>> {
     match kind {
         Kind::Listing => fixed_listings(),
-        Kind::Script => as_bytes(ledgers::scripts()),
+        Kind::Script => as_bytes([ledgers::scripts(), carriers::scripts()].concat()),
     }
 }
 
