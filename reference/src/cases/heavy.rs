@@ -404,6 +404,29 @@ pub fn arrived(passes: bool) -> Heavy {
     heavy.with_arrival(long_arrival(254, passes)).with_choices(&[[0, 0, 2]])
 }
 
+/// A thread `rep` and 63 on accept, which makes 64, and an arrival that stays;
+/// it is taken in at the end, or not.
+fn full_threads(name: &'static str, taken_in: bool) -> Heavy {
+    let net = "N,1\nL,s0,0\nQ,0,rep,1\nQ,1,accept,2,0\nQ,2,nil\n".to_string();
+    let mut choices = vec![[0, 0, 0]; 63];
+    if taken_in {
+        choices.push([63, 0, 3]);
+    }
+    let arrival = "Q,0,rep,1\nQ,1,nil\n".to_string();
+    Heavy::new(name, net, String::new()).with_arrival(arrival).with_choices(&choices)
+}
+
+/// States whose newest arrival is withdrawn; from the last one it is refused.
+pub fn withdrawals() -> [Heavy; 4] {
+    let read = "Q,0,read,1,s0,!u1,!u2,!u3\nQ,1,nil\n".to_string();
+    [
+        cycle("2 lines, 21 threads elsewhere", &["accept,42,0", "nil"], &[]).with_arrival(read),
+        arrived(false).renamed("254 lines, one thread elsewhere").with_choices(&[]),
+        full_threads("64 threads, none on the arrival", false),
+        full_threads("64 threads, the last on the arrival", true),
+    ]
+}
+
 /// Every named input; of those timed in turn, the first.
 pub fn all() -> Vec<Heavy> {
     let mut all = checks();
@@ -413,6 +436,7 @@ pub fn all() -> Vec<Heavy> {
     all.push(closed_doors());
     all.extend(waiting());
     all.extend([arrived(false), arrived(true)]);
+    all.extend(withdrawals());
     all
 }
 
@@ -528,14 +552,42 @@ mod tests {
         }
     }
 
-    #[test]
-    fn doors_stay_closed() {
-        let heavy = closed_doors();
-        let mut state = begun(&heavy);
+    /// Each step performed.
+    fn stepped(heavy: &Heavy) -> State {
+        let mut state = begun(heavy);
         for step in heavy.choices.chunks(3) {
             let [k, m, r] = [step[0], step[1], step[2]].map(usize::from);
             state.step(k, m, r).unwrap();
         }
+        state
+    }
+
+    #[test]
+    fn withdrawals_are_as_named() {
+        let expected = [(21, 45, Ok(43)), (1, 256, Ok(2)), (64, 5, Ok(3)), (64, 5, Err(36))];
+        for (heavy, (threads, lines, answer)) in withdrawals().iter().zip(expected) {
+            let mut state = stepped(heavy);
+            let root = state.arrivals[0].root;
+            let on_arrival = |k: &usize| state.threads[*k].line >= root;
+            let places: Vec<usize> = (0..state.threads.len()).filter(on_arrival).collect();
+            assert_eq!(places, if answer.is_ok() { vec![] } else { vec![63] }, "{}", heavy.name);
+            assert_eq!((state.threads.len(), state.net.lines.len()), (threads, lines));
+            assert_eq!(state.withdraw().map_err(|refusal| refusal.number), answer);
+        }
+    }
+
+    #[test]
+    fn names_are_different() {
+        let mut names: Vec<&str> = all().iter().map(|heavy| heavy.name).collect();
+        names.sort_unstable();
+        let count = names.len();
+        names.dedup();
+        assert_eq!(names.len(), count);
+    }
+
+    #[test]
+    fn doors_stay_closed() {
+        let state = stepped(&closed_doors());
         assert_eq!(state.threads.len(), 64);
         assert_eq!(state.ready(), None);
         assert!((0..32).all(|l| state.door(6, l, 0) == Ok(false)));

@@ -12,10 +12,25 @@ use std::cell::RefCell;
 use std::slice::from_ref;
 
 const ROUNDS: usize = 15;
-/// Seconds that one measurement takes at least.
+/// Seconds that one measurement takes at least, what is taken off not counted;
+/// and at most, where that is nearly all.
 const LEAST: f64 = 0.004;
+const MOST: f64 = 0.1;
 /// Calls for the comparison of answers; a multiple of each cycle's steps.
 const SAMPLE: usize = 24;
+
+const CALLS: [&str; 10] = [
+    "check",
+    "read",
+    "list",
+    "start",
+    "bring",
+    "withdraw",
+    "step",
+    "guarded step",
+    "ready",
+    "door",
+];
 
 /// Does its work as often as asked, and answers a number.
 type Work<'a> = Box<dyn Fn(usize) -> u32 + 'a>;
@@ -70,10 +85,13 @@ fn seconds(work: &Work, count: usize) -> f64 {
 /// How often a side must work for a measurement to be long enough.
 fn enough(side: &Side) -> usize {
     let mut count = 1;
-    while seconds(&side.work, count) < LEAST + seconds(&side.idle, count) {
+    loop {
+        let work = seconds(&side.work, count);
+        if work >= MOST || work >= LEAST + seconds(&side.idle, count) {
+            return count;
+        }
         count *= 2;
     }
-    count
 }
 
 fn once(side: &Side, count: usize) -> f64 {
@@ -192,6 +210,13 @@ fn bring_job(heavy: &Heavy) -> Job<'_> {
     job
 }
 
+fn withdraw_job(heavy: &Heavy) -> Job<'_> {
+    let theirs = |heavy, n| theirs::withdraw(heavy, true, n);
+    let mut job = pair("withdraw", heavy, ours::withdraw, theirs);
+    job.sides[1].idle = Box::new(move |count| theirs::withdraw(heavy, false, count));
+    job
+}
+
 /// The door for a root, a site and a sandbox.
 fn door_job(heavy: &Heavy, at: [u8; 3]) -> Job<'_> {
     let theirs = move |heavy, n| theirs::door(heavy, at, n);
@@ -200,7 +225,7 @@ fn door_job(heavy: &Heavy, at: [u8; 3]) -> Job<'_> {
 
 fn jobs<'a>(inputs: &'a Inputs) -> Vec<Job<'a>> {
     let Inputs { march, large, halves, checks, mixed_sets, .. } = inputs;
-    let Inputs { cycles, refusals, mixed, closed, waiting, arrived, .. } = inputs;
+    let Inputs { cycles, refusals, mixed, closed, waiting, arrived, withdrawals, .. } = inputs;
     let texts = || checks.iter().map(from_ref).chain([&mixed_sets[..]]);
     let mut jobs: Vec<Job> = texts().map(check_job).collect();
     jobs.extend(texts().map(read_job));
@@ -208,6 +233,7 @@ fn jobs<'a>(inputs: &'a Inputs) -> Vec<Job<'a>> {
     jobs.extend([march, large, mixed].map(start_job));
     jobs.extend(cycles.iter().filter(|heavy| !heavy.arrival.is_empty()).map(bring_job));
     jobs.extend(arrived.iter().map(bring_job));
+    jobs.extend(withdrawals.iter().map(withdraw_job));
     let steps = |heavy, n| theirs::steps(heavy, false, n);
     jobs.extend(cycles.iter().map(|heavy| pair("step", heavy, ours::steps, steps)));
     jobs.extend(refusals.iter().map(|heavy| pair("step", heavy, ours::steps, steps)));
@@ -236,6 +262,7 @@ struct Inputs {
     closed: Heavy,
     waiting: [Heavy; 2],
     arrived: [Heavy; 2],
+    withdrawals: [Heavy; 4],
 }
 
 fn main() {
@@ -251,6 +278,7 @@ fn main() {
         closed: heavy::closed_doors(),
         waiting: heavy::waiting(),
         arrived: [heavy::arrived(false), heavy::arrived(true)],
+        withdrawals: heavy::withdrawals(),
     };
     println!("Microseconds of processor time for a call: the median of {ROUNDS} rounds, both sides in turn.");
     println!("Both are built for release. Buffers and states are not cleared between calls.");
@@ -260,8 +288,7 @@ fn main() {
     println!("{:13} {:40} {:>11} {:>11} {:>7}", "call", "input", "ours", "reference", "ratio");
     let times: Vec<Times> = jobs(&inputs).iter().map(measure).inspect(print).collect();
     println!("\nThe largest time of each call, ours:");
-    for call in ["check", "read", "list", "start", "bring", "step", "guarded step", "ready", "door"]
-    {
+    for call in CALLS {
         let of_call = times.iter().filter(|times| times.call == call);
         if let Some(worst) = of_call.max_by(|a, b| a.each[0].total_cmp(&b.each[0])) {
             println!("{:13} {:40} {:>11.3}", call, worst.input, worst.each[0]);

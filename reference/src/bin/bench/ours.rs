@@ -12,6 +12,13 @@ extern "C" {
     fn salmurkki_list(input: &[u8], output: &mut [u8; LISTING_BYTES]) -> usize;
     fn salmurkki_start(net: &[u8], estimate: &[u8], count: usize) -> u32;
     fn salmurkki_bring(net: &[u8], estimate: &[u8], arrival: &[u8], count: usize) -> u32;
+    fn salmurkki_withdraw(
+        net: &[u8],
+        estimate: &[u8],
+        arrival: &[u8],
+        choices: &[u8],
+        count: usize,
+    ) -> u32;
     fn salmurkki_steps(
         net: &[u8],
         estimate: &[u8],
@@ -69,6 +76,11 @@ pub fn start(heavy: &Heavy, count: usize) -> u32 {
 
 pub fn bring(heavy: &Heavy, count: usize) -> u32 {
     unsafe { salmurkki_bring(&heavy.net, &heavy.estimate, &heavy.arrival, count) }
+}
+
+pub fn withdraw(heavy: &Heavy, count: usize) -> u32 {
+    let Heavy { net, estimate, arrival, choices, .. } = heavy;
+    unsafe { salmurkki_withdraw(net, estimate, arrival, choices, count) }
 }
 
 pub fn steps(heavy: &Heavy, count: usize) -> u32 {

@@ -11,6 +11,7 @@ const BROKEN_T: u32 = 1 << 16;
 const BROKEN_Q: u32 = 2 << 16;
 const REFUSED: u32 = 3 << 16;
 const NO_PLACE: u32 = 64;
+const PLACES: u32 = NO_PLACE + 1;
 
 pub fn check(heavy: &Heavy, report: &mut [u8]) -> u32 {
     match flow::check(&heavy.net, &heavy.estimate, report) {
@@ -47,6 +48,16 @@ fn brought(heavy: &Heavy) -> State {
     state
 }
 
+/// A bare step for each three of the choices.
+fn stepped(heavy: &Heavy) -> State {
+    let mut state = brought(heavy);
+    for at in (0..heavy.choices.len()).step_by(3) {
+        let [k, m, r] = choice(&heavy.choices, at);
+        let _ = state.step(k, m, r);
+    }
+    state
+}
+
 fn choice(choices: &[u8], at: usize) -> [usize; 3] {
     [choices[at], choices[at + 1], choices[at + 2]].map(usize::from)
 }
@@ -73,6 +84,22 @@ pub fn bring(heavy: &Heavy, bring: bool, count: usize) -> u32 {
         black_box(&last);
     }
     placed(&last)
+}
+
+/// The newest arrival withdrawn from copies of one state; without `withdraw`,
+/// the copies alone. Answers how many lines the last one has, and the place
+/// that is ready.
+pub fn withdraw(heavy: &Heavy, withdraw: bool, count: usize) -> u32 {
+    let state = stepped(heavy);
+    let mut last = state.clone();
+    for _ in 0..count {
+        last = state.clone();
+        if withdraw {
+            let _ = last.withdraw();
+        }
+        black_box(&last);
+    }
+    last.net.lines.len() as u32 * PLACES + placed(&last)
 }
 
 pub fn steps(heavy: &Heavy, guarded: bool, count: usize) -> u32 {
@@ -103,11 +130,7 @@ pub fn door(heavy: &Heavy, at: [u8; 3], count: usize) -> u32 {
 }
 
 pub fn ready(heavy: &Heavy, count: usize) -> u32 {
-    let mut state = brought(heavy);
-    for at in (0..heavy.choices.len()).step_by(3) {
-        let [k, m, r] = choice(&heavy.choices, at);
-        let _ = state.step(k, m, r);
-    }
+    let state = stepped(heavy);
     let mut sum: u32 = 0;
     for _ in 0..count {
         sum = sum.wrapping_add(placed(black_box(&state)));
