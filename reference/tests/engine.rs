@@ -364,7 +364,7 @@ const HOUSE_ESTIMATE: &str = "B,u0,s2 A,s1,s2 E,s2,s1,r";
 
 /// Agents of a carrier: one that the door passes, and one that it does not.
 const BRING_CLERK: &str = "bring Q,0,read,1,s1,!u0 Q,1,out,2,s1,u0 Q,2,nil .";
-const BRING_THIEF: &str = "bring Q,0,in,1,s1,!u0 Q,1,nil .";
+const BRING_TAKER: &str = "bring Q,0,in,1,s1,!u0 Q,1,nil .";
 
 /// 35 looks at the arrivals alone: a refused bring adds none.
 #[test]
@@ -459,7 +459,7 @@ fn arrivals_are_withdrawn_from_the_newest_on() {
         HOUSE_ESTIMATE,
         &[
             (BRING_CLERK, "brought,3"),
-            (BRING_THIEF, "brought,6"),
+            (BRING_TAKER, "brought,6"),
             ("step,0,0,0", "silent"),
             ("step,1,0,3", "performed,s0,s0,a"),
             (BRING_CLERK, "brought,8"),
@@ -467,11 +467,11 @@ fn arrivals_are_withdrawn_from_the_newest_on() {
             ("withdraw", "withdrawn,6"),
             ("withdraw", "refused,36,0"),
             ("step,1,0,0", "performed,s0,s1,r"),
-            (BRING_THIEF, "brought,6"),
+            (BRING_TAKER, "brought,6"),
             ("withdraw", "withdrawn,6"),
             ("withdraw", "refused,36,0"),
             ("step,1,0,0", "performed,s0,s1,o"),
-            (BRING_THIEF, "brought,6"),
+            (BRING_TAKER, "brought,6"),
         ],
     );
     assert_eq!(state[state.len() - 2..], ["lines,8", "roots,3,6"]);
@@ -492,7 +492,7 @@ fn numbers_given_again() {
             ("door,3,0,0", "refused,24,0"),
             ("step,1,0,3", "refused,24,0"),
             ("guarded,1,0,3", "refused,24,0"),
-            (BRING_THIEF, "brought,3"),
+            (BRING_TAKER, "brought,3"),
             ("door,3,0,0", "closed"),
             ("step,1,0,3", "refused,25,0"),
             ("withdraw", "withdrawn,3"),
@@ -513,7 +513,7 @@ fn ready_looks_at_the_arrivals_left() {
         HOUSE_ESTIMATE,
         &[
             ("ready", "ready,none"),
-            (BRING_THIEF, "brought,2"),
+            (BRING_TAKER, "brought,2"),
             ("ready", "ready,none"),
             (BRING_CLERK, "brought,4"),
             ("ready", "ready,0"),
@@ -561,7 +561,7 @@ fn every_number_up_to_the_last_comes_free() {
 #[test]
 fn bring_and_withdraw_leave_the_state() {
     let arrival = |words: &str| rows(words.trim_start_matches("bring ").trim_end_matches(" ."));
-    let (clerk, thief) = (arrival(BRING_CLERK), arrival(BRING_THIEF));
+    let (clerk, taker) = (arrival(BRING_CLERK), arrival(BRING_TAKER));
     let mut state = State::start(rows(HOUSE).as_bytes(), rows(HOUSE_ESTIMATE).as_bytes()).unwrap();
     let both = |state: &mut State, text: &str, root: u8| {
         let before = state.clone();
@@ -579,18 +579,18 @@ fn bring_and_withdraw_leave_the_state() {
     refused(&mut state, 35);
     both(&mut state, &clerk, 3);
     assert_eq!(state.bring(clerk.as_bytes()), Ok(3));
-    both(&mut state, &thief, 6);
+    both(&mut state, &taker, 6);
     state.step(0, 0, 0).unwrap();
     state.step(1, 0, 3).unwrap();
     refused(&mut state, 36);
-    both(&mut state, &thief, 6);
+    both(&mut state, &taker, 6);
     state.step(1, 0, 0).unwrap();
     refused(&mut state, 36);
     both(&mut state, &clerk, 6);
     // Both numbers are given to other lines than before.
     state.step(1, 0, 0).unwrap();
     assert_eq!(state.withdraw(), Ok(3));
-    assert_eq!(state.bring(thief.as_bytes()), Ok(3));
+    assert_eq!(state.bring(taker.as_bytes()), Ok(3));
     both(&mut state, &clerk, 5);
 }
 
