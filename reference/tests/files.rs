@@ -7,7 +7,8 @@ use std::fs;
 const FOLDER: &str = concat!(env!("CARGO_MANIFEST_DIR"), "/../examples/");
 
 /// Each file, and its listing up to the U rows.
-const LISTINGS: [(&str, &str); 9] = [
+const LISTINGS: [(&str, &str); 10] = [
+    ("carrier.txt", "accepted,0"),
     ("lab.txt", "accepted,0"),
     ("lab_broken.txt", "broken,Q,4"),
     ("lab_misread.txt", "accepted,1 V,s1,s3,o"),
@@ -17,6 +18,23 @@ const LISTINGS: [(&str, &str); 9] = [
     ("march.txt", "accepted,1 V,s1,s1,a"),
     ("shares.txt", "accepted,0"),
     ("warehouse.txt", "accepted,0"),
+];
+
+/// Commands for the net and the estimate of `carrier.txt`, and their answers.
+const COMMANDS: &str = "carrier_day.txt";
+const ANSWERS: [&str; 12] = [
+    "brought,3",
+    "silent",
+    "performed,s0,s0,a",
+    "refused,36,0",
+    "performed,s0,s1,r",
+    "performed,s0,s0,o",
+    "withdrawn,3",
+    "refused,35,0",
+    "silent",
+    "refused,24,0",
+    "brought,3",
+    "performed,s0,s0,a",
 ];
 
 fn text(file: &str) -> String {
@@ -36,7 +54,10 @@ fn no_other_files() {
     let names = fs::read_dir(FOLDER).unwrap().map(|entry| entry.unwrap().file_name());
     let mut names: Vec<String> = names.map(|name| name.into_string().unwrap()).collect();
     names.sort();
-    assert_eq!(names, LISTINGS.map(|(file, _)| file));
+    let mut expected: Vec<&str> = LISTINGS.iter().map(|(file, _)| *file).collect();
+    expected.push(COMMANDS);
+    expected.sort_unstable();
+    assert_eq!(names, expected);
 }
 
 /// "Without the first it is `broken,Q,0`": a row for the clerk, then one for
@@ -48,6 +69,15 @@ fn a_spare_variable_needs_its_rows() {
         assert!(spare.contains(row));
         assert_eq!(text_listing(&spare.replace(row, "")), answer);
     }
+}
+
+/// A carrier's agent comes, works, goes, and another one gets its number.
+#[test]
+fn a_day_of_the_warehouse() {
+    let input = text("carrier.txt") + &text(COMMANDS);
+    let output = lines_of(&reference::script::run(input.as_bytes()));
+    assert_eq!(output[1..=ANSWERS.len()], ANSWERS);
+    assert_eq!(output[1 + ANSWERS.len()], "state,2,2,5");
 }
 
 /// The thread's bindings behind two steps.

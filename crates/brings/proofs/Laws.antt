@@ -37,6 +37,7 @@ use Rattle.state.specs.declared.State.{State}
 use Rattle.state.specs.View.{groundView, stateView, answerView, resultView}
 use Rattle.state.specs.Fits.{soundAt, Fits}
 use Rattle.state.proofs.Few.{sites-few, lines-few, arrivals-few}
+use Rattle.state.proofs.Lent.{answering, answering-fits}
 use Rattle.brings.specs.Brought.{Brought}
 
 -- a root put behind the roots
@@ -129,11 +130,11 @@ module _ (st : State) (f : Fits st) where
     refused-read h = ap (λ (b : Bool). cond b (gives (linesView (a .count) (a .lines))) (refused (a .number) (a .row))) (ne-eqb (a .number) 0 h)
 
     -- a refusal leaves the state as it is
-    pub refused-bring : (a .number ≡ 0 → ⊥) → (next : State) → stateView next ≡ stateView st → answerView (next .run .told) ≡ refused (a .number) (a .row) → Fits next → Brought st rows next
-    unfolding resultView bringRead
-    refused-bring h next v w g = record {
-      result = rw (v, w) (sym (bring-read ∙ ap (bringRead (stateView st)) (refused-read h)));
-      fits = g;
+    pub refused-bring : (a .number ≡ 0 → ⊥) → (told : Told) → answerView told ≡ refused (a .number) (a .row) → Brought st rows (answering st told)
+    unfolding resultView bringRead stateView
+    refused-bring h told w = record {
+      result = rw w (sym (bring-read ∙ ap (bringRead (stateView st)) (refused-read h)));
+      fits = answering-fits st f told;
     }
 
     module _ (z : a .number ≡ 0) where
@@ -180,12 +181,7 @@ module _ (st : State) (f : Fits st) where
           narrivals = st .narrivals + 1;
           sound = set (st .sound) (st .narrivals) sites;
           tuples = st .tuples;
-          run = record {
-            threads = st .run .threads;
-            nthreads = st .run .nthreads;
-            ntuples = st .run .ntuples;
-            told = told;
-          };
+          run = answering st told .run;
         }
 
         own-lines : linesView (st .own) new ≡ linesView (st .own) (st .lines)

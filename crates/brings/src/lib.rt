@@ -59,13 +59,12 @@ pub fn bring(state: State, rows: &[u8]) -> State
     ensures { λ next. ⌜ Brought state (now (rows .entry)) next ⌝ }
 {
     let mut next = state;
-    let mut run = state.run;
     let n = state.nlines;
     let read = arrivals::read_arrival(state.net.size, n, rows);
     let number = read.number;
     if number != 0 {
-        run.told = state::refused(number, read.row);
-        next.run = run;
+        next.run.told.number = number;
+        next.run.told.row = read.row;
         return next;
     }
     let m = read.count;
@@ -89,7 +88,8 @@ pub fn bring(state: State, rows: &[u8]) -> State
     next.arrivals[k] = root;
     next.sound[k] = sites;
     next.narrivals = k + 1;
-    run.told = state::brought(root);
-    next.run = run;
+    next.run.told.number = 0;
+    next.run.told.event = state::BROUGHT;
+    next.run.told.site = root;
     next
 }

@@ -3,7 +3,7 @@ ghost use mathlib.Core.Path.{_≡_};
 ghost use Prim.Native.Nat.{_<_};
 ghost use mathlib.Core.Bool.{cond};
 ghost use Rattle.klaim.specs.Reader.{refused as refusedOf, gives};
-ghost use Rattle.klaim.specs.Engine.{brought as broughtOf, withdrawn as withdrawnOf, silent as silentOf, performed};
+ghost use Rattle.klaim.specs.Engine.{silent as silentOf, performed};
 ghost use Rattle.state.specs.View.{answerView};
 use tables::Estimate;
 use threads::Thread;
@@ -73,34 +73,6 @@ pub fn refused(number: u8, row: usize) -> Told
         row,
         event: PERFORMED,
         site: 0,
-        target: 0,
-        right: 0,
-    }
-}
-
-// An arrival brought, its root's line.
-pub fn brought(root: u8) -> Told
-    ensures { λ t. ⌜ answerView t ≡ gives (broughtOf root) ⌝ }
-{
-    Told {
-        number: 0,
-        row: 0,
-        event: BROUGHT,
-        site: root,
-        target: 0,
-        right: 0,
-    }
-}
-
-// An arrival withdrawn, its root's line.
-pub fn withdrawn(root: u8) -> Told
-    ensures { λ t. ⌜ answerView t ≡ gives (withdrawnOf root) ⌝ }
-{
-    Told {
-        number: 0,
-        row: 0,
-        event: WITHDRAWN,
-        site: root,
         target: 0,
         right: 0,
     }

@@ -6,22 +6,23 @@ ghost use Rattle.sets.specs.Lists.{any};
 ghost use Rattle.threads.specs.View.{threadsView};
 ghost use Rattle.state.specs.Fits.{Fits};
 ghost use Rattle.withdraws.specs.Withdrawn.{Withdrawn};
+use state::Run;
 use state::State;
-use threads::Thread;
 
-// The numbers of its refusals.
+// The numbers of its refusals: the state has no arrival; a thread stands on one of the newest arrival's lines.
 const NO_ARRIVAL: u8 = 35;
 
-const OCCUPIED: u8 = 36;
+const LINES_IN_USE: u8 = 36;
 
-// Whether one of the first n threads stands on line r or on one behind it.
-fn occupied(items: [Thread; 64], n: usize, r: u8) -> bool
-    requires { ⌜ n ≤ 64 ⌝ }
-    ensures { λ b. ⌜ b ≡ any (λ th. leb r (th .line)) (threadsView n items) ⌝ }
+// Whether a thread stands on line r or on one behind it.
+fn occupied(run: Run, r: u8) -> bool
+    requires { ⌜ run .nthreads ≤ 64 ⌝ }
+    ensures { λ b. ⌜ b ≡ any (λ th. leb r (th .line)) (threadsView (run .nthreads) (run .threads)) ⌝ }
 {
+    let n = run.nthreads;
     let mut i: usize = 0;
     while i < n {
-        let th = items[i];
+        let th = run.threads[i];
         if r <= th.line {
             return true;
         }
@@ -31,31 +32,30 @@ fn occupied(items: [Thread; 64], n: usize, r: u8) -> bool
 }
 
 // The newest arrival withdrawn: the answer is its root's line number, or a refusal. Its lines are those from the root on. Only the counts
-// go back: what a table holds behind its count is no part of a state.
+// go back: what a table holds behind its count is no part of a state. The answer is written number by number, since a struct put there
+// would copy the threads.
 pub fn withdraw(state: State) -> State
     requires { ⌜ Fits state ⌝ }
     ensures { λ next. ⌜ Withdrawn state next ⌝ }
 {
     let mut next = state;
-    let mut run = state.run;
-    let k = state.narrivals;
+    let k = next.narrivals;
     if k == 0 {
-        run.told = state::refused(NO_ARRIVAL, 0);
-        next.run = run;
+        next.run.told.number = NO_ARRIVAL;
+        next.run.told.row = 0;
         return next;
     }
     let root = next.arrivals[k - 1];
-    let items = run.threads;
-    let n = run.nthreads;
-    if occupied(items, n, root) {
-        run.told = state::refused(OCCUPIED, 0);
-        next.run = run;
+    if occupied(next.run, root) {
+        next.run.told.number = LINES_IN_USE;
+        next.run.told.row = 0;
         return next;
     }
     let lines = root as usize;
     next.nlines = lines;
     next.narrivals = k - 1;
-    run.told = state::withdrawn(root);
-    next.run = run;
+    next.run.told.number = 0;
+    next.run.told.event = state::WITHDRAWN;
+    next.run.told.site = root;
     next
 }

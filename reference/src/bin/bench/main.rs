@@ -12,10 +12,8 @@ use std::cell::RefCell;
 use std::slice::from_ref;
 
 const ROUNDS: usize = 15;
-/// Seconds that one measurement takes at least, what is taken off not counted;
-/// and at most, where that is nearly all.
+/// Seconds that one measurement takes at least.
 const LEAST: f64 = 0.004;
-const MOST: f64 = 0.1;
 /// Calls for the comparison of answers; a multiple of each cycle's steps.
 const SAMPLE: usize = 24;
 
@@ -85,13 +83,10 @@ fn seconds(work: &Work, count: usize) -> f64 {
 /// How often a side must work for a measurement to be long enough.
 fn enough(side: &Side) -> usize {
     let mut count = 1;
-    loop {
-        let work = seconds(&side.work, count);
-        if work >= MOST || work >= LEAST + seconds(&side.idle, count) {
-            return count;
-        }
+    while seconds(&side.work, count) < LEAST + seconds(&side.idle, count) {
         count *= 2;
     }
+    count
 }
 
 fn once(side: &Side, count: usize) -> f64 {
@@ -210,13 +205,6 @@ fn bring_job(heavy: &Heavy) -> Job<'_> {
     job
 }
 
-fn withdraw_job(heavy: &Heavy) -> Job<'_> {
-    let theirs = |heavy, n| theirs::withdraw(heavy, true, n);
-    let mut job = pair("withdraw", heavy, ours::withdraw, theirs);
-    job.sides[1].idle = Box::new(move |count| theirs::withdraw(heavy, false, count));
-    job
-}
-
 /// The door for a root, a site and a sandbox.
 fn door_job(heavy: &Heavy, at: [u8; 3]) -> Job<'_> {
     let theirs = move |heavy, n| theirs::door(heavy, at, n);
@@ -233,7 +221,8 @@ fn jobs<'a>(inputs: &'a Inputs) -> Vec<Job<'a>> {
     jobs.extend([march, large, mixed].map(start_job));
     jobs.extend(cycles.iter().filter(|heavy| !heavy.arrival.is_empty()).map(bring_job));
     jobs.extend(arrived.iter().map(bring_job));
-    jobs.extend(withdrawals.iter().map(withdraw_job));
+    let withdraw = |heavy| pair("withdraw", heavy, ours::withdraw, theirs::withdraw);
+    jobs.extend(withdrawals.iter().map(withdraw));
     let steps = |heavy, n| theirs::steps(heavy, false, n);
     jobs.extend(cycles.iter().map(|heavy| pair("step", heavy, ours::steps, steps)));
     jobs.extend(refusals.iter().map(|heavy| pair("step", heavy, ours::steps, steps)));
