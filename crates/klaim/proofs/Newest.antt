@@ -3,13 +3,13 @@
 use mathlib.Core.Path.{_≡_, refl, sym, ap, subst, _∙_}
 use mathlib.Core.Bool.{true}
 use mathlib.Core.List.{List, [], _∷_, _++_}
-use mathlib.Core.Option.{Option, some, Option·none-ne-some, Option·some-injective}
+use mathlib.Core.Option.{some, Option·none-ne-some, Option·some-injective}
 use Prim.Native.Nat.{ℕ, suc, _+_, _-_, _<_, _≤_}
 use native.Mathlib.Omega.{arith}
 use lib.Dec.{ltb}
 use lib.ListN.{length, getD, take}
 use lib.Seq.{take-suc}
-use Rattle.sets.specs.Lists.{Elem, first, later, _&_, all}
+use Rattle.sets.specs.Lists.{Elem, first, later, all}
 use Rattle.sets.proofs.Lists.{and-l, and-r, and-i, all-at, all-front, all-last, all-snoc, ltb-lt}
 use Rattle.klaim.specs.Engine.{newest, older}
 use Rattle.klaim.specs.Invariant.{rising}

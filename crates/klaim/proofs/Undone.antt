@@ -2,7 +2,7 @@
 -- Assumes nothing.
 use mathlib.Core.Path.{_≡_, refl, ap, _∙_}
 use mathlib.Core.Bool.{Bool, false, cond}
-use mathlib.Core.List.{List, [], _∷_, _++_, map}
+use mathlib.Core.List.{List, map}
 use mathlib.Core.Option.{some}
 use Prim.Native.Nat.{ℕ}
 use lib.Dec.{leb}
@@ -13,9 +13,9 @@ use Rattle.sets.proofs.Lists.{All-in, none-any}
 use Rattle.klaim.specs.Process.{Line, move}
 use Rattle.klaim.specs.Reader.{Answer, refused, gives}
 use Rattle.klaim.specs.State.{State}
-use Rattle.klaim.specs.Engine.{Event, brought, withdrawn, Result, refuse, joined, bringRead, bring, newest, older, occupied, freed, withdrawRoot, withdraw}
+use Rattle.klaim.specs.Engine.{Event, brought, withdrawn, Result, refuse, joined, bringRead, bring, newest, occupied, freed, withdrawRoot, withdraw}
 use Rattle.klaim.specs.Invariant.{Invariant}
-use Rattle.klaim.specs.Undone.{Undone, Statement}
+use Rattle.klaim.specs.Undone.{Statement}
 use Rattle.klaim.proofs.Scan.{refused-none}
 use Rattle.klaim.proofs.Newest.{newest-snoc, older-snoc}
 

@@ -11,7 +11,7 @@ use lib.ListN.{length, getD, take}
 use lib.Seq.{length-take-le, getD-take}
 use Rattle.sets.specs.Lists.{Elem, any}
 use Rattle.sets.proofs.Lists.{in-getD}
-use Rattle.klaim.specs.Process.{Line, Tree, tree}
+use Rattle.klaim.specs.Process.{Line, tree}
 use Rattle.klaim.specs.Reader.{refused, gives}
 use Rattle.klaim.specs.Engine.{Result, refuse, withdrawn, newest, occupied, freed, withdrawRoot, withdraw}
 use Rattle.klaim.specs.Invariant.{Invariant, ArrivalOk, rising}
