@@ -36,7 +36,7 @@ use Rattle.state.specs.declared.Told.{Told}
 use Rattle.state.specs.declared.State.{State}
 use Rattle.state.specs.View.{groundView, stateView, answerView, resultView}
 use Rattle.state.specs.Fits.{soundAt, Fits}
-use Rattle.state.proofs.Few.{sites-few, lines-few, arrivals-few}
+use Rattle.state.proofs.Few.{sites-few, lines-few, own-few, arrivals-few}
 use Rattle.state.proofs.Lent.{answering, answering-fits}
 use Rattle.brings.specs.Brought.{Brought}
 
@@ -185,7 +185,7 @@ module _ (st : State) (f : Fits st) where
         }
 
         own-lines : linesView (st .own) new ≡ linesView (st .own) (st .lines)
-        own-lines = own-kept (st .own) (st .nlines) (a .count) (st .lines) new _ (f .own-few) j
+        own-lines = own-kept (st .own) (st .nlines) (a .count) (st .lines) new _ (own-few f) j
 
         module _ (sites : ℕ) (told : Told) where
           room : st .narrivals < 256
@@ -236,7 +236,6 @@ module _ (st : State) (f : Fits st) where
                 sound-long = length-set (st .sound) (st .narrivals) sites ∙ f .sound-long;
                 tuples-long = f .tuples-long;
                 threads-few = f .threads-few;
-                own-few = omega (arith, f .own-few);
                 arrivals-few = omega (arith, some-line, f .arrivals-few);
                 sound-is = sound-all;
                 invariant = subst Invariant (ap (λ (r : Result). r .state) joined-bring ∙ sym behind-view) (bring-keeps (stateView st) rows (f .invariant));

@@ -334,14 +334,11 @@ module _ (ls : List Line) (r : ℕ) (few : r ≤ length ls) (t : ordered (take r
   first-long : length (take r ls) ≡ r
   first-long = length-take-le r ls few
 
-  first-tree : (q : ℕ) → q < r → tree (take r ls) q ≡ tree ls q
-  first-tree q h = tree-first ls r q t (omega (arith, first-long))
-
   -- are enough for an arrival and a thread that stand on them
   arrival-first : (own s : ℕ) → s < r → ArrivalOk own ls s → ArrivalOk own (take r ls) s
   arrival-first own s h o = record {
     present = omega (arith, first-long);
-    closed = subst (λ (t : Tree). empty (free t) ≡ true) (sym (first-tree s h)) (o .closed);
+    closed = subst (λ (t : Tree). empty (free t) ≡ true) (sym (tree-first ls r few t s h)) (o .closed);
     behind = o .behind;
     apart = subst (λ (l : List Line). ordered l ≡ true) (sym (take-take s r ls (omega arith))) (o .apart);
   }
@@ -354,7 +351,7 @@ module _ (ls : List Line) (r : ℕ) (few : r ≤ length ls) (t : ordered (take r
     running = ap isNil (getD-take r ls (th .line) Nil h) ∙ o .running;
     bindings-long = o .bindings-long;
     bindings-low = o .bindings-low;
-    free-bound = λ u k. o .free-bound u (subst (λ (t : Tree). Elem u (free t)) (first-tree (th .line) h) k);
+    free-bound = λ u k. o .free-bound u (subst (λ (t : Tree). Elem u (free t)) (tree-first ls r few t (th .line) h) k);
   }
 
 -- no thread stands on the lines from r on
@@ -370,9 +367,9 @@ module _ (st : State) (i : Invariant st) (r : ℕ) (e : newest (st .arrivals) �
   pub rises : rising (older (st .arrivals) ++ (r ∷ [])) ≡ true
   rises = subst (λ (rs : List ℕ). rising rs ≡ true) (newest-last (st .arrivals) e) (i .arrivals-rise)
 
-  -- what stands on a line before its root stands for what it stood for
+  -- a line before its root stands for the process that it stood for
   pub kept-tree : (q : ℕ) → q < r → tree (take r (st .lines)) q ≡ tree (st .lines) q
-  kept-tree q h = first-tree (st .lines) r (omega (arith, newest-ok .present)) (newest-ok .apart) q h
+  kept-tree = tree-first (st .lines) r (omega (arith, newest-ok .present)) (newest-ok .apart)
 
   freed-ok : occupied st r ≡ false → Invariant (freed st r)
   unfolding freed
@@ -398,7 +395,7 @@ module _ (st : State) (i : Invariant st) (r : ℕ) (e : newest (st .arrivals) �
       few = omega (arith, newest-ok .present)
 
       long : length (take r (st .lines)) ≡ r
-      long = length-take-le r (st .lines) few
+      long = first-long (st .lines) r few (newest-ok .apart)
 
       old : (s : ℕ) → Elem s (older (st .arrivals)) → ArrivalOk (length (st .net .lines)) (st .lines) s
       old s j = All-in (i .arrivals-ok) (subst (Elem s) (sym (newest-last (st .arrivals) e)) (in-front (r ∷ []) j))

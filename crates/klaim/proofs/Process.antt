@@ -9,6 +9,7 @@ use native.Mathlib.Omega.{arith}
 use native.Mathlib.Nat.{add-zero}
 use lib.Dec.{ltb}
 use lib.ListN.{length, getD, take, drop, take-append-drop, List·getD-append, length-append, length-map}
+use lib.Seq.{length-take-le}
 use Rattle.sets.specs.Lists.{Elem, first, later, _&_, all, concat, among, _⧺_}
 use Rattle.sets.specs.Bits.{inBit, readBit}
 use Rattle.sets.proofs.Lists.{in-none, in-left, in-right, in-keep, in-concat, among-in, split, and-l, and-r, and-i, all-at, all-turn, all-map, ltb-lt, lt-ltb}
@@ -187,9 +188,10 @@ tree-old ls ms q t h =
     ap (λ (ts : List Tree). getD ts q nilT) (trees-append 0 (length ls) ls ms t (omega arith))
     ∙ List·getD-append (trees 0 ls) _ nilT q (omega (arith, length-trees 0 ls))
 
--- and the first lines, if they name none behind them, stand for what they stood for
-pub tree-first : (ls : List Line) (r q : ℕ) → ordered (take r ls) ≡ true → q < length (take r ls) → tree (take r ls) q ≡ tree ls q
-tree-first ls r q t h = sym (tree-old (take r ls) (drop r ls) q t h) ∙ ap (λ (l : List Line). tree l q) (take-append-drop r ls)
+-- and the first r lines, if they name none behind them, stand for what they stood for
+pub tree-first : (ls : List Line) (r : ℕ) → r ≤ length ls → ordered (take r ls) ≡ true → (q : ℕ) → q < r → tree (take r ls) q ≡ tree ls q
+tree-first ls r few t q h =
+    sym (tree-old (take r ls) (drop r ls) q t (omega (arith, length-take-le r ls few))) ∙ ap (λ (l : List Line). tree l q) (take-append-drop r ls)
 
 getD-behind : (xs ys : List Tree) (d : Tree) → getD (xs ++ ys) (length xs) d ≡ getD ys 0 d
 getD-behind [] ys d = refl

@@ -59,11 +59,13 @@ listed report s t right = has (getD report (pairIndex s t) 0) right
 unfoldable pub forbids : Net → Thread → ℕ → ℕ → Bool
 forbids N th t right = either (not (has (getD (th .policy) t 0) right)) (not (has (home N (th .site) t) right))
 
--- (a) "Policies never forbid a silent step"; what else they forbid, the report lists
+-- (a) "Policies never forbid a silent step"; what else they forbid, the report lists. No step answers as bring or withdraw do.
 abbrev pub Permitted : Net → List ℕ → Option Thread → Answer Event → Type 0
 Permitted N report th (refused n row) = Unit {0}
-Permitted N report th (gives (brought q)) = Unit {0}
-Permitted N report th (gives (withdrawn q)) = Unit {0}
+Permitted N report none (gives (brought q)) = Unit {0}
+Permitted N report (some th) (gives (brought q)) = ⊥
+Permitted N report none (gives (withdrawn q)) = Unit {0}
+Permitted N report (some th) (gives (withdrawn q)) = ⊥
 Permitted N report th (gives silent) = Unit {0}
 Permitted N report none (gives (performed s t right)) = ⊥
 Permitted N report (some th) (gives (performed s t right)) = forbids N th t right ≡ true → listed report s t right ≡ true
@@ -101,8 +103,8 @@ Statement = (net estimate buffer : List ℕ) → check net estimate buffer .answ
 -- beside it: what a guarded step performs, the policies do not forbid, whatever the state
 abbrev pub Allowed : Net → Option Thread → Answer Event → Type 0
 Allowed N th (refused n row) = Unit {0}
-Allowed N th (gives (brought q)) = Unit {0}
-Allowed N th (gives (withdrawn q)) = Unit {0}
+Allowed N th (gives (brought q)) = ⊥
+Allowed N th (gives (withdrawn q)) = ⊥
 Allowed N th (gives silent) = Unit {0}
 Allowed N none (gives (performed s t right)) = ⊥
 Allowed N (some th) (gives (performed s t right)) = forbids N th t right ≡ false

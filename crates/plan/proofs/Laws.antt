@@ -7,10 +7,12 @@ use Prim.Native.Nat.{ℕ, suc, _<_, _≤_}
 use native.Mathlib.Omega.{arith}
 use borrow.Author.Tests.{eq-eqb, ne-eqb}
 use lib.Dec.{eqb}
-use lib.ListN.{length, getD, getElem?, take, drop, drop-of-length-le}
-use lib.Seq.{drop-cons, length-take-le, getD-take}
-use Rattle.sets.specs.Lists.{_&_, either, any, among}
+use lib.ListN.{length, getD, getElem?, take, drop}
+use lib.Seq.{length-take-le, getD-take}
+use Rattle.sets.specs.Lists.{_&_, any, among, table}
 use Rattle.sets.proofs.Lists.{in-getD}
+use Rattle.sets.proofs.Tables.{list-table}
+use Rattle.sets.proofs.Shared.{any-yes, any-no, any-end}
 use Rattle.sets.specs.Bits.{mem}
 use Rattle.klaim.specs.declared.Loc.{Loc}
 use Rattle.klaim.specs.declared.Slot.{Slot}
@@ -97,23 +99,21 @@ taken-view st k right change xs ys {v} {t = t} p q e =
 
 -- the arrivals' roots from place i on
 module _ (xs : List ℕ) (n r : ℕ) (long : n ≤ length xs) (i : ℕ) where
-  root-from : i < n → among (drop i (take n xs)) r ≡ either (eqb r (getD xs i 0)) (among (drop (suc i) (take n xs)) r)
-  unfolding among any
-  root-from h =
-      ap (any (eqb r)) (drop-cons (take n xs) i 0 (omega (arith, length-take-le n xs long)))
-      ∙ ap (λ (x : ℕ). either (eqb r x) (any (eqb r) (drop (suc i) (take n xs)))) (getD-take n xs i 0 h)
+  roots : take n xs ≡ table n (λ k. getD xs k 0)
+  roots = list-table 0 n xs long
+
+  from-place : (j : ℕ) → among (drop j (take n xs)) r ≡ any (eqb r) (drop j (table n (λ k. getD xs k 0)))
+  unfolding among
+  from-place j = ap (λ (rs : List ℕ). any (eqb r) (drop j rs)) roots
 
   pub root-here : i < n → r ≡ getD xs i 0 → among (drop i (take n xs)) r ≡ true
-  unfolding either
-  root-here h e = root-from h ∙ ap (λ (b : Bool). either b (among (drop (suc i) (take n xs)) r)) (eq-eqb r (getD xs i 0) e)
+  root-here h e = from-place i ∙ any-yes (eqb r) n (λ k. getD xs k 0) i h (eq-eqb r (getD xs i 0) e)
 
   pub root-later : i < n → (r ≡ getD xs i 0 → ⊥) → (j : ℕ) → suc i ≡ j → among (drop i (take n xs)) r ≡ among (drop j (take n xs)) r
-  unfolding either
-  root-later h e j s = root-from h ∙ ap (λ (b : Bool). either b (among (drop (suc i) (take n xs)) r)) (ne-eqb r (getD xs i 0) e) ∙ ap (λ (j : ℕ). among (drop j (take n xs)) r) s
+  root-later h e j s = from-place i ∙ any-no (eqb r) n (λ k. getD xs k 0) i j h s (ne-eqb r (getD xs i 0) e) ∙ sym (from-place j)
 
   pub root-none : n ≤ i → among (drop i (take n xs)) r ≡ false
-  unfolding among any
-  root-none h = ap (any (eqb r)) (drop-of-length-le (take n xs) {i = i} (omega (arith, length-take-le n xs long)))
+  root-none h = from-place i ∙ any-end (eqb r) n (λ k. getD xs k 0) i h
 
 -- the root at a place is a line
 module _ {lines : List ℕ} {n : ℕ} {arrivals : List ℕ} {narrivals : ℕ} {sets : List ℕ} (w : Admits lines n arrivals narrivals sets) (i : ℕ) (h : i < narrivals) where

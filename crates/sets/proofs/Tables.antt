@@ -80,13 +80,13 @@ from-take n zero i f h = refl
 from-take zero (suc r) i f h = absurd (omega arith)
 from-take {A} (suc n) (suc r) i f h = ap (λ (l : List A). f i ∷ l) (from-take n r (suc i) f (omega arith))
 
-pub table-take : {A : Type 0} (n r : ℕ) (f : ℕ → A) → r ≤ n → take r (table n f) ≡ table r f
+pub table-short : {A : Type 0} (n r : ℕ) (f : ℕ → A) → r ≤ n → take r (table n f) ≡ table r f
 unfolding table
-table-take n r f h = from-take n r 0 f h
+table-short n r f h = from-take n r 0 f h
 
 -- the first n elements of a list as a table, and a table with a function put on each element
-pub take-table : {A : Type 0} (d : A) (n : ℕ) (l : List A) → n ≤ length l → take n l ≡ table n (λ k. getD l k d)
-take-table d n l h =
+pub list-table : {A : Type 0} (d : A) (n : ℕ) (l : List A) → n ≤ length l → take n l ≡ table n (λ k. getD l k d)
+list-table d n l h =
     ext-getD d (take n l) (table n (λ k. getD l k d)) (long ∙ sym (length-table n (λ k. getD l k d))) (λ k i. getD-take n l k d (omega (arith, long)) ∙ sym (getD-table n (λ j. getD l j d) k d (omega (arith, long))))
   where
     long : length (take n l) ≡ n

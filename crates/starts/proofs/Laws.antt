@@ -89,7 +89,6 @@ begun-fits N E ts number row lines tuples few i = record {
   sound-long = refl;
   tuples-long = tuples;
   threads-few = few;
-  own-few = omega arith;
   arrivals-few = omega arith;
   sound-is = λ i l h k. absurd (omega arith);
   invariant = i;

@@ -18,6 +18,11 @@ module _ {st : State} (f : Fits st) where
   unfolding stateView
   lines-few = omega (arith, length-view (st .nlines) (st .lines), f .invariant .lines-few)
 
+  -- the net's lines are among the lines
+  pub own-few : st .own ≤ st .nlines
+  unfolding stateView groundView
+  own-few = omega (arith, length-view (st .own) (st .lines), length-view (st .nlines) (st .lines), f .invariant .own-lines)
+
   pub arrivals-few : st .narrivals ≤ 256
   arrivals-few = omega (arith, lines-few, f .arrivals-few)
 

@@ -14,6 +14,11 @@ pub refused-view : (t : Told) → 0 < t .number → answerView t ≡ refused (t 
 unfolding answerView
 refused-view t h = rw (ne-eqb (t .number) 0 (omega arith))
 
+-- without a number, something was done
+pub given-view : (t : Told) → t .number ≡ 0 → answerView t ≡ gives (eventView t)
+unfolding answerView
+given-view t e = rw e
+
 -- what was done, by its kind
 module _ (t : Told) (e : t .number ≡ 0) where
   pub brought-view : t .event ≡ 0 → answerView t ≡ gives (brought (t .site))

@@ -70,7 +70,6 @@ fits-on st tuples run f long few i = record {
   sound-long = f .sound-long;
   tuples-long = long;
   threads-few = few;
-  own-few = f .own-few;
   arrivals-few = f .arrivals-few;
   sound-is = f .sound-is;
   invariant = i;

@@ -15,15 +15,14 @@ use Rattle.state.specs.View.{stateView}
 unfoldable pub soundAt : State → ℕ → ℕ → Bool
 soundAt st i l = sound (stateView st .net) (stateView st .estimate) l (tree (stateView st .lines) (getD (st .arrivals) i 0))
 
--- the tables are as long as their types say, the counts lie within the arrays, the net's lines among the lines, the set of each arrival
--- has the sites at which it is sound, and what the state stands for has the invariant
+-- the tables are as long as their types say, the counts lie within the arrays, the set of each arrival has the sites at which it is
+-- sound, and what the state stands for has the invariant
 pub record Fits (st : State) : Type 0 where
   pub lines-long : length (st .lines) ≡ 2560
   pub arrivals-long : length (st .arrivals) ≡ 256
   pub sound-long : length (st .sound) ≡ 256
   pub tuples-long : length (st .tuples) ≡ 1536
   pub threads-few : st .run .nthreads ≤ 64
-  pub own-few : st .own ≤ st .nlines
   pub arrivals-few : st .narrivals ≤ st .nlines
   pub sound-is : (i l : ℕ) → i < st .narrivals → l < st .net .size → mem l (getD (st .sound) i 0) ≡ soundAt st i l
   pub invariant : Invariant (stateView st)

@@ -45,7 +45,7 @@ eventView t =
     (cond (eqb (t .event) 3) (withdrawn (t .site))
     (performed (t .site) (t .target) (t .right))))
 
--- the answer of document 01: "A refusal returns its number, and its row"
+-- the answer of documents 01 and 02: "A refusal returns its number, and its row"
 unfoldable pub answerView : Told → Answer Event
 answerView t = cond (eqb (t .number) 0) (gives (eventView t)) (refused (t .number) (t .row))
 

@@ -12,7 +12,7 @@ use lib.ListN.{length, getD, take, drop, length-take, length-drop, List·getD-eq
 use lib.Seq.{take-all, getD-take}
 use Rattle.sets.specs.Lists.{Elem, first, later}
 use Rattle.sets.proofs.Lists.{cond-at}
-use Rattle.sets.proofs.Tables.{getD-table, length-table, table-take}
+use Rattle.sets.proofs.Tables.{getD-table, length-table, table-short}
 use Rattle.klaim.specs.declared.Loc.{Loc}
 use Rattle.klaim.specs.Process.{Line, lineAt, children, node, tree}
 use Rattle.klaim.specs.Process as Process
@@ -33,7 +33,7 @@ line-view n bs q h = getD-table n (lineOf bs) q Process.Nil h
 -- the first r lines
 pub first-lines : (n r : ℕ) (bs : List ℕ) → r ≤ n → take r (linesView n bs) ≡ linesView r bs
 unfolding linesView
-first-lines n r bs h = table-take n r (lineOf bs) h
+first-lines n r bs h = table-short n r (lineOf bs) h
 
 -- a line of kind 0 is `nil`, and no other
 abbrev Other : Line → Type 0

@@ -14,7 +14,7 @@ use lib.Seq.{getD-set-same, getD-set-other, ext-getD, take-suc-set, take-set-lt,
 use Rattle.sets.specs.Lists.{either, splice, table, tableFrom, _&_}
 use Rattle.sets.specs.Bits.{has, mem, join}
 use Rattle.sets.proofs.Lists.{eq-eqb, or-r, or-false}
-use Rattle.sets.proofs.Tables.{getD-table, length-table, same-table, take-table, map-table, Filled}
+use Rattle.sets.proofs.Tables.{getD-table, length-table, same-table, list-table, map-table, Filled}
 use Rattle.sets.proofs.Bits.{has-or, has-none}
 use Rattle.klaim.specs.declared.Site.{Site}
 use Rattle.klaim.specs.declared.Var.{Var}
@@ -101,7 +101,7 @@ thread-none n items k h l = get-none (threadsView n items) k (omega (arith, thre
 -- the list as a table
 pub threads-table : (n : ℕ) (items : List Thread) → n ≤ length items → threadsView n items ≡ table n (λ k. threadView (getD items k noThread))
 unfolding threadsView
-threads-table n items h = ap (map threadView) (take-table noThread n items h) ∙ map-table threadView n (λ k. getD items k noThread)
+threads-table n items h = ap (map threadView) (list-table noThread n items h) ∙ map-table threadView n (λ k. getD items k noThread)
 
 -- the list with a thread more, or another
 module _ (items : List Thread) (n : ℕ) (th : Thread) where

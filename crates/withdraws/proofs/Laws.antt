@@ -100,9 +100,9 @@ module _ (st : State) (f : Fits st) where
     unfolding stateView freed
     behind-view told = rw (first-lines (st .nlines) root (st .lines) root-low, older-take (st .arrivals) (st .narrivals) h few)
 
-    own-kept : st .own ≤ root
+    own-low : st .own ≤ root
     unfolding stateView groundView
-    own-kept = omega (arith, root-ok .behind, length-view (st .own) (st .lines))
+    own-low = omega (arith, root-ok .behind, length-view (st .own) (st .lines))
 
     left-few : left ≤ root
     left-few = omega (arith, left-long, rising-few (take left (st .arrivals)) root roots-rise)
@@ -132,7 +132,6 @@ module _ (st : State) (f : Fits st) where
         sound-long = f .sound-long;
         tuples-long = f .tuples-long;
         threads-few = f .threads-few;
-        own-few = own-kept;
         arrivals-few = left-few;
         sound-is = λ i l k n. f .sound-is i l (omega arith) n ∙ sym (sound-kept told i l k);
         invariant = subst Invariant (ap (λ (r : Result). r .state) (by-threads false o) ∙ sym (behind-view told)) (withdraw-keeps (stateView st) (f .invariant));

@@ -1,4 +1,4 @@
-use Rattle.repeats.proofs.Tuples.{root-no, root-yes}
+use Rattle.repeats.proofs.Roots.{root-no, root-yes}
 use borrow.Author.Needs.{needs}
 use Rattle.repeats.proofs.root_is.Statement.{statement}
 use Rattle.repeats.proofs.root_is.Tie as tie
