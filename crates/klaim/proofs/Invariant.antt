@@ -14,7 +14,7 @@ use Rattle.sets.specs.Lists.{Elem, first, later, All, done, more, _&_, either, 
 use Rattle.sets.specs.Bits.{inBit, readBit}
 use Rattle.sets.proofs.Lists.{and-l, and-r, in-none, all-at, all-i, all-none, all-turn, all-snoc, all-append, all-map, all-splice, all-get, among-in, empty-none, All-get, All-append, All-splice, All-turn, All-in, All-concat, ltb-lt, lt-ltb, leb-le, in-concat, in-right, in-map, cond-at, concat-short, in-getD, In-All, any-none, nleb-lt, all-front, in-front, in-last}
 use Rattle.sets.proofs.Tables.{length-table}
-use Rattle.klaim.specs.Limits.{threadLimit, tupleLimit}
+use Rattle.klaim.specs.Limits.{threadLimit, tupleLimit, lineLimit}
 use Rattle.klaim.specs.declared.Loc.{Loc}
 use Rattle.klaim.specs.declared.Slot.{Slot}
 use Rattle.klaim.specs.declared.Slot.the-variants.{Value}
@@ -334,6 +334,12 @@ module _ (ls : List Line) (r : ℕ) (few : r ≤ length ls) (t : ordered (take r
   first-long : length (take r ls) ≡ r
   first-long = length-take-le r ls few
 
+  first-most : (n : ℕ) → length ls ≤ n → length (take r ls) ≤ n
+  first-most n h = omega (arith, first-long)
+
+  first-least : (n : ℕ) → n ≤ r → n ≤ length (take r ls)
+  first-least n h = omega (arith, first-long)
+
   -- are enough for an arrival and a thread that stand on them
   arrival-first : (own s : ℕ) → s < r → ArrivalOk own ls s → ArrivalOk own (take r ls) s
   arrival-first own s h o = record {
@@ -374,18 +380,18 @@ module _ (st : State) (i : Invariant st) (r : ℕ) (e : newest (st .arrivals) �
   freed-ok : occupied st r ≡ false → Invariant (freed st r)
   unfolding freed
   freed-ok free = record {
-    lines-ordered = newest-ok .apart;
     sites-some = i .sites-some;
     sites-few = i .sites-few;
-    lines-few = omega (arith, i .lines-few, long, newest-ok .present);
+    lines-few = first-most (st .lines) r few (newest-ok .apart) lineLimit (i .lines-few);
     threads-few = i .threads-few;
     tuples-few = i .tuples-few;
+    lines-ordered = newest-ok .apart;
     lines-fit = all-front (lineFits (st .net .size)) (take r (st .lines)) (drop r (st .lines)) (subst (λ (l : List Line). all (lineFits (st .net .size)) l ≡ true) (sym (take-append-drop r (st .lines))) (i .lines-fit));
     stand-fit = i .stand-fit;
     stand-few = i .stand-few;
     stand-distinct = i .stand-distinct;
     tuples-fit = i .tuples-fit;
-    own-lines = omega (arith, newest-ok .behind, long);
+    own-lines = first-least (st .lines) r few (newest-ok .apart) (length (st .net .lines)) (newest-ok .behind);
     arrivals-ok = In-All (older (st .arrivals)) (λ s j. arrival-first (st .lines) r few (newest-ok .apart) (length (st .net .lines)) s (rising-less _ r rises s j) (old s j));
     arrivals-rise = rising-front (older (st .arrivals)) r rises;
     threads-ok = In-All (st .threads) (λ th j. thread-first (st .lines) r few (newest-ok .apart) (st .net .size) th (unoccupied st r free th j) (All-in (i .threads-ok) j));
@@ -393,9 +399,6 @@ module _ (st : State) (i : Invariant st) (r : ℕ) (e : newest (st .arrivals) �
     where
       few : r ≤ length (st .lines)
       few = omega (arith, newest-ok .present)
-
-      long : length (take r (st .lines)) ≡ r
-      long = first-long (st .lines) r few (newest-ok .apart)
 
       old : (s : ℕ) → Elem s (older (st .arrivals)) → ArrivalOk (length (st .net .lines)) (st .lines) s
       old s j = All-in (i .arrivals-ok) (subst (Elem s) (sym (newest-last (st .arrivals) e)) (in-front (r ∷ []) j))
