@@ -15,7 +15,7 @@ pub const NO_RIGHT: u8 = 26;
 pub const NO_ROOM: u8 = 27;
 
 /// Numbers of the refusals of a withdrawal (document 02, No. 8).
-pub const NONE_BROUGHT: u8 = 35;
+pub const NONE_TO_WITHDRAW: u8 = 35;
 pub const LINES_IN_USE: u8 = 36;
 
 /// A site or none for each variable.
@@ -157,7 +157,7 @@ impl State {
     /// state has no arrival, then 36 while a thread stands on one of the lines,
     /// row 0 each; a refusal changes nothing.
     pub fn withdraw(&mut self) -> Result<u8, Refusal> {
-        let root = self.arrivals.last().ok_or(Refusal::whole(NONE_BROUGHT))?.root;
+        let root = self.arrivals.last().ok_or(Refusal::whole(NONE_TO_WITHDRAW))?.root;
         if self.threads.iter().any(|thread| thread.line >= root) {
             return Err(Refusal::whole(LINES_IN_USE));
         }

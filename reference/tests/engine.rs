@@ -366,32 +366,9 @@ const HOUSE_ESTIMATE: &str = "B,u0,s2 A,s1,s2 E,s2,s1,r";
 const BRING_CLERK: &str = "bring Q,0,read,1,s1,!u0 Q,1,out,2,s1,u0 Q,2,nil .";
 const BRING_TAKER: &str = "bring Q,0,in,1,s1,!u0 Q,1,nil .";
 
-/// 35 looks at the arrivals alone: a refused bring adds none.
+/// What an arrival did stays; its lines and its root go.
 #[test]
-fn nothing_to_withdraw() {
-    expect(
-        HOUSE,
-        HOUSE_ESTIMATE,
-        &[
-            ("withdraw", "refused,35,0"),
-            ("step,0,0,0", "silent"),
-            ("withdraw", "refused,35,0"),
-            ("bring .", "refused,5,0"),
-            ("withdraw", "refused,35,0"),
-            (BRING_CLERK, "brought,3"),
-            ("bring X .", "refused,1,1"),
-            ("withdraw", "withdrawn,3"),
-            ("withdraw", "refused,35,0"),
-            ("withdraw", "refused,35,0"),
-        ],
-    );
-    expect("N,1", "", &[("withdraw", "refused,35,0")]);
-}
-
-/// An arrival taken in stands on its root, then on a later line, then it has
-/// run to its end.
-#[test]
-fn withdraw_when_no_thread_stands_on_the_arrival() {
+fn a_withdrawal_leaves_threads_and_tuples() {
     let state = expect(
         HOUSE,
         HOUSE_ESTIMATE,
@@ -399,126 +376,32 @@ fn withdraw_when_no_thread_stands_on_the_arrival() {
             (BRING_CLERK, "brought,3"),
             ("step,0,0,0", "silent"),
             ("step,1,0,3", "performed,s0,s0,a"),
-            ("withdraw", "refused,36,0"),
             ("step,1,0,0", "performed,s0,s1,r"),
-            ("withdraw", "refused,36,0"),
             ("step,1,0,0", "performed,s0,s1,o"),
             ("withdraw", "withdrawn,3"),
-            ("withdraw", "refused,35,0"),
         ],
     );
     let thread = format!("thread,s0,{},0,-", "00".repeat(32));
     assert_eq!(state, ["state,1,2,3", &thread, "tuple,s1,s2", "tuple,s1,s2", "lines,3", "roots"]);
 }
 
-/// A thread of the arrival counts wherever it runs: here its eval body does,
-/// at another site, when the arrival's own thread has ended.
+/// A number that was a later line of one arrival becomes the root of another.
 #[test]
-fn a_body_sent_elsewhere_blocks_a_withdrawal() {
+fn a_later_line_becomes_a_root() {
     expect(
-        "N,3 D,0,s2,e D,1,s1,r T,s1,s2 L,s0,0 Q,0,accept,1,0 Q,1,nil",
-        HOUSE_ESTIMATE,
-        &[
-            ("bring Q,0,eval,1,s2,2,1 Q,1,nil Q,2,read,3,s1,s2 Q,3,nil .", "brought,2"),
-            ("step,0,0,2", "performed,s0,s0,a"),
-            ("step,0,0,0", "performed,s0,s2,e"),
-            ("withdraw", "refused,36,0"),
-            ("step,0,0,0", "performed,s2,s1,r"),
-            ("withdraw", "withdrawn,2"),
-        ],
-    );
-}
-
-/// A `rep` line is never left.
-#[test]
-fn a_thread_on_rep_blocks_each_withdrawal() {
-    let bring = "bring Q,0,rep,1 Q,1,read,2,s1,_ Q,2,nil .";
-    expect(
-        HOUSE,
-        HOUSE_ESTIMATE,
-        &[
-            (bring, "brought,3"),
-            ("step,0,0,0", "silent"),
-            ("step,1,0,3", "performed,s0,s0,a"),
-            ("withdraw", "refused,36,0"),
-            ("step,1,0,0", "silent"),
-            ("step,2,0,0", "performed,s0,s1,r"),
-            ("withdraw", "refused,36,0"),
-            (bring, "brought,6"),
-            ("withdraw", "withdrawn,6"),
-            ("withdraw", "refused,36,0"),
-        ],
-    );
-}
-
-/// The newest arrival goes first, whatever stands on older ones.
-#[test]
-fn arrivals_are_withdrawn_from_the_newest_on() {
-    let state = expect(
         HOUSE,
         HOUSE_ESTIMATE,
         &[
             (BRING_CLERK, "brought,3"),
-            (BRING_TAKER, "brought,6"),
-            ("step,0,0,0", "silent"),
-            ("step,1,0,3", "performed,s0,s0,a"),
-            (BRING_CLERK, "brought,8"),
-            ("withdraw", "withdrawn,8"),
-            ("withdraw", "withdrawn,6"),
-            ("withdraw", "refused,36,0"),
-            ("step,1,0,0", "performed,s0,s1,r"),
-            (BRING_TAKER, "brought,6"),
-            ("withdraw", "withdrawn,6"),
-            ("withdraw", "refused,36,0"),
-            ("step,1,0,0", "performed,s0,s1,o"),
-            (BRING_TAKER, "brought,6"),
-        ],
-    );
-    assert_eq!(state[state.len() - 2..], ["lines,8", "roots,3,6"]);
-}
-
-/// A number that came free is no root until it is given again; the door then
-/// judges the lines that it was given to.
-#[test]
-fn numbers_given_again() {
-    expect(
-        HOUSE,
-        HOUSE_ESTIMATE,
-        &[
-            ("step,0,0,0", "silent"),
-            (BRING_CLERK, "brought,3"),
-            ("door,3,0,0", "passes"),
-            ("withdraw", "withdrawn,3"),
-            ("door,3,0,0", "refused,24,0"),
-            ("step,1,0,3", "refused,24,0"),
-            ("guarded,1,0,3", "refused,24,0"),
-            (BRING_TAKER, "brought,3"),
-            ("door,3,0,0", "closed"),
-            ("step,1,0,3", "refused,25,0"),
+            ("door,4,0,0", "refused,24,0"),
             ("withdraw", "withdrawn,3"),
             ("bring Q,0,nil .", "brought,3"),
             (BRING_CLERK, "brought,4"),
             ("door,3,0,0", "passes"),
             ("door,4,0,0", "passes"),
+            ("step,0,0,0", "silent"),
             ("step,1,0,4", "performed,s0,s0,a"),
             ("step,1,0,0", "performed,s0,s1,r"),
-        ],
-    );
-}
-
-#[test]
-fn ready_looks_at_the_arrivals_left() {
-    expect(
-        "N,3 D,0,s1,or T,s1,s2 L,s0,0 Q,0,accept,1,0 Q,1,nil",
-        HOUSE_ESTIMATE,
-        &[
-            ("ready", "ready,none"),
-            (BRING_TAKER, "brought,2"),
-            ("ready", "ready,none"),
-            (BRING_CLERK, "brought,4"),
-            ("ready", "ready,0"),
-            ("withdraw", "withdrawn,4"),
-            ("ready", "ready,none"),
         ],
     );
 }
@@ -594,17 +477,9 @@ fn bring_and_withdraw_leave_the_state() {
     both(&mut state, &clerk, 5);
 }
 
-/// The command is that one row, and between `bring` and its `.` a row of the
-/// arrival.
+/// Bytes behind the last row are no command, though they spell one.
 #[test]
-fn withdraw_as_a_row() {
-    let commands = "withdraw,\nwithdraw,0\nwithdraw,0,0,0\nWithdraw\nwithdraw \n withdraw\n\
-        withdraw\r\nwithdrawn\nbring\nwithdraw\n.\nbring\nQ,0,nil\nwithdraw\n.\nwithdraw\n\
-        bring\nQ,0,nil\n.\nwithdraw\nwithdraw";
-    let out = lines_of(&script::run(format!("N,1\n.\n.\n{commands}").as_bytes()));
-    let mut expected = vec!["started"];
-    expected.extend(["bad command"; 8]);
-    expected.extend(["refused,1,1", "refused,1,2", "refused,35,0", "brought,0", "withdrawn,0"]);
-    expected.extend(["bad command", "state,0,0,0", "lines,0", "roots"]);
-    assert_eq!(out, expected);
+fn withdraw_without_the_end_of_a_row() {
+    let out = lines_of(&script::run(b"N,1\n.\n.\nbring\nQ,0,nil\n.\nwithdraw"));
+    assert_eq!(out, ["started", "brought,0", "bad command", "state,0,0,1", "lines,1", "roots,0"]);
 }

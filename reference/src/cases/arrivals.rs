@@ -36,6 +36,35 @@ pub fn friendly(rng: &mut Rng, state: &State, wildcards: usize, l: Site, d: usiz
     maker.lines
 }
 
+/// Lines numbered from 0 of an arrival at l under sandbox d that sends a body to
+/// another site and ends; the body begins with `par`, which takes no right. None
+/// where the sandbox has no right e on another site.
+pub fn sender(
+    rng: &mut Rng,
+    state: &State,
+    wildcards: usize,
+    l: Site,
+    d: usize,
+) -> Option<Vec<Line>> {
+    let allowed = state.net.sandboxes[d].at(l);
+    let others: Vec<Site> = members(below(state.net.sites))
+        .filter(|&t| t != l && allowed[t.index()] & EVAL != 0)
+        .collect();
+    if others.is_empty() {
+        return None;
+    }
+    let target = *rng.pick(&others);
+    let mut maker = Friendly { rng, state, wildcards, lines: vec![] };
+    let sandbox = maker.sandbox(target)?;
+    // The first line is set when the number of the last one is known.
+    maker.lines = vec![Line::Nil, Line::Par { next: 2, second: 3 }, Line::Nil];
+    maker.chain(target, &state.net.sandboxes[usize::from(sandbox)].at(target), 2, 0);
+    let next = maker.lines.len() as u8;
+    maker.lines[0] = Line::Eval { next, target: Term::Site(target), body: 1, sandbox };
+    maker.lines.push(Line::Nil);
+    Some(maker.lines)
+}
+
 /// The number of the line behind one; past the last there is none, and it
 /// begins anew, so that such an arrival is refused.
 fn behind(at: usize) -> u8 {
@@ -118,9 +147,8 @@ impl Friendly<'_> {
         }
     }
 
-    /// An eval at t, or at a variable, of a body that mostly does what its
-    /// sandbox lets it do.
-    fn eval(&mut self, t: Site, scope: u32) {
+    /// A sandbox that lies within the E rights of t.
+    fn sandbox(&mut self, t: Site) -> Option<u8> {
         let estimate = &self.state.estimate;
         let fitting: Vec<u8> = (0..SANDBOXES as u8)
             .filter(|&k| {
@@ -128,10 +156,13 @@ impl Friendly<'_> {
                 within(&rights, &estimate.rights[t.index()])
             })
             .collect();
-        if fitting.is_empty() {
-            return;
-        }
-        let sandbox = *self.rng.pick(&fitting);
+        (!fitting.is_empty()).then(|| *self.rng.pick(&fitting))
+    }
+
+    /// An eval at t, or at a variable, of a body that mostly does what its
+    /// sandbox lets it do.
+    fn eval(&mut self, t: Site, scope: u32) {
+        let Some(sandbox) = self.sandbox(t) else { return };
         let target = if scope != 0 && self.rng.chance(50) {
             Term::Var(Var(self.rng.member(scope)))
         } else {

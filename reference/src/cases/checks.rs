@@ -268,7 +268,8 @@ fn plain_door(state: &State, r: usize, end: usize, l: Site, d: u8) -> bool {
         && (0..SITES).all(|t| plain_use(&net, estimate, r, t) & !evaluated(&net, d, l, t) == 0)
 }
 
-fn begun(net: &Net, estimate: &Estimate) -> State {
+/// The state begun from the texts of a net and an estimate.
+pub(super) fn begun(net: &Net, estimate: &Estimate) -> State {
     State::start(&bytes(&net_rows(net)), &bytes(&estimate_rows(estimate))).unwrap()
 }
 
@@ -324,48 +325,58 @@ fn state_is_within(state: &State) -> bool {
         && state.threads.iter().all(bound)
 }
 
+/// What was seen in runs: steps performed, those of them that the policies
+/// forbid, withdrawals, and steps on a line behind one that had come free.
+#[derive(Default, Debug)]
+struct Counts {
+    performed: usize,
+    forbidden: usize,
+    withdrawn: usize,
+    behind: usize,
+}
+
+/// One run of bring, bare steps and, for every other seed, withdrawals; the net
+/// of such a seed has a thread that takes arrivals in.
+fn check_run(seed: u64, counts: &mut Counts) {
+    let rng = &mut Rng::new(seed);
+    let style = varied(seed, Style { weights: BUSY, sandbox_rows: 6, widened: 80, ..LISTING });
+    let (mut net, mut estimate) = accepted(rng, &style);
+    let withdraws = seed % 2 == 1;
+    if withdraws {
+        add_accepting_thread(rng, &mut net, &mut estimate);
+    }
+    let report = flow::report(&net, &estimate, &flow::net_places(&net, &estimate));
+    let mut state = begun(&net, &estimate);
+    let mut given_again = MAX_LINES;
+    for turn in 0..120 {
+        if turn % 15 == 0 || (withdraws && rng.chance(10)) {
+            scripts::bring_friendly(rng, &mut state, style.wildcards);
+        }
+        if withdraws && rng.chance(15) {
+            let root = state.withdraw().map_or(MAX_LINES, usize::from);
+            counts.withdrawn += usize::from(root < MAX_LINES);
+            given_again = given_again.min(root);
+        }
+        let Some((k, m, r)) = scripts::performing_step(rng, &state, false) else { continue };
+        let permitted = state.judge(true, k, m, r).is_ok();
+        counts.behind += usize::from(usize::from(state.threads[k].line) >= given_again);
+        if let Ok(Done::Acted { site, target, right }) = state.step(k, m, r) {
+            counts.performed += 1;
+            counts.forbidden += usize::from(!permitted);
+            let listed = report[site.index() * SITES + target.index()] & right != 0;
+            assert!(permitted || listed, "seed {seed}, turn {turn}");
+        }
+        assert!(state_is_within(&state), "seed {seed}, turn {turn}");
+    }
+}
+
 /// What demand 3 says of accepted nets: a performed step that the policies
-/// forbid is in the report, and all stays within the estimate. Every other net
-/// has withdrawals in its run, and a thread that takes arrivals in.
+/// forbid is in the report, and all stays within the estimate.
 #[test]
 fn forbidden_steps_are_reported() {
-    let style = Style { weights: BUSY, sandbox_rows: 6, widened: 80, ..LISTING };
-    let (mut performed, mut forbidden, mut withdrawn, mut behind) = (0, 0, 0, 0);
-    for seed in 0..NETS {
-        let rng = &mut Rng::new(seed);
-        let style = varied(seed, style);
-        let (mut net, mut estimate) = accepted(rng, &style);
-        let withdraws = seed % 2 == 1;
-        if withdraws {
-            add_accepting_thread(rng, &mut net, &mut estimate);
-        }
-        let report = flow::report(&net, &estimate, &flow::net_places(&net, &estimate));
-        let mut state = begun(&net, &estimate);
-        let mut given_again = MAX_LINES;
-        for turn in 0..120 {
-            if turn % 15 == 0 || (withdraws && rng.chance(10)) {
-                scripts::bring_friendly(rng, &mut state, style.wildcards);
-            }
-            if withdraws && rng.chance(15) {
-                let root = state.withdraw().map_or(MAX_LINES, usize::from);
-                withdrawn += usize::from(root < MAX_LINES);
-                given_again = given_again.min(root);
-            }
-            let Some((k, m, r)) = scripts::performing_step(rng, &state, false) else {
-                continue;
-            };
-            let permitted = state.judge(true, k, m, r).is_ok();
-            behind += usize::from(usize::from(state.threads[k].line) >= given_again);
-            if let Ok(Done::Acted { site, target, right }) = state.step(k, m, r) {
-                performed += 1;
-                forbidden += usize::from(!permitted);
-                let listed = report[site.index() * SITES + target.index()] & right != 0;
-                assert!(permitted || listed, "seed {seed}, turn {turn}");
-            }
-            assert!(state_is_within(&state), "seed {seed}, turn {turn}");
-        }
-    }
-    let counts = (performed, forbidden, withdrawn, behind);
+    let mut counts = Counts::default();
+    (0..NETS).for_each(|seed| check_run(seed, &mut counts));
+    let Counts { performed, forbidden, withdrawn, behind } = counts;
     assert!(performed > 2000 && forbidden > 200 && withdrawn > 500 && behind > 500, "{counts:?}");
 }
 

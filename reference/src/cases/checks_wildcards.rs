@@ -1,12 +1,11 @@
 //! Checks of wildcards over generated nets: matching against its definition,
 //! and a wildcard against a variable that nothing reads.
 
-use super::checks::{has_wildcard, varied, NETS};
+use super::checks::{begun, has_wildcard, varied, NETS};
 use super::nets::{accepted, Style, LISTING};
 use super::process::{template, template_mut, BUSY};
 use super::rng::Rng;
 use super::scripts::{self, performing_step};
-use super::text::{bytes, estimate_rows, net_rows};
 use crate::engine::{State, Thread, NO_MATCH};
 use crate::flow;
 use crate::rows::*;
@@ -16,10 +15,6 @@ use crate::rows::*;
 const SPARE: u8 = VARS as u8 - MAX_FIELDS as u8;
 
 const STYLE: Style = Style { weights: BUSY, max_lines: 40, ..LISTING };
-
-fn started(net: &Net, estimate: &Estimate) -> State {
-    State::start(&bytes(&net_rows(net)), &bytes(&estimate_rows(estimate))).unwrap()
-}
 
 fn value(thread: &Thread, term: Term) -> Option<Site> {
     match term {
@@ -83,7 +78,7 @@ fn templates_match_as_they_are_defined_to() {
     for seed in 0..NETS {
         let rng = &mut Rng::new(seed);
         let (net, estimate) = accepted(rng, &varied(seed, STYLE));
-        let mut state = started(&net, &estimate);
+        let mut state = begun(&net, &estimate);
         for turn in 0..40 {
             if turn % 10 == 0 {
                 scripts::bring_friendly(rng, &mut state, 50);
@@ -148,7 +143,7 @@ fn wildcards_are_variables_that_nothing_reads() {
         let report = flow::report(&net, &estimate, &places);
         assert_eq!(report, flow::report(&other, &wide, &other_places), "seed {seed}");
         nets += 1;
-        let (mut state, mut other) = (started(&net, &estimate), started(&other, &wide));
+        let (mut state, mut other) = (begun(&net, &estimate), begun(&other, &wide));
         for _ in 0..60 {
             let Some((k, m, r)) = performing_step(rng, &state, false) else { break };
             let m = if rng.chance(80) { m } else { rng.below(8) };

@@ -1,13 +1,13 @@
 //! Checks of withdrawals (document 02, No. 8) over generated states: against a
 //! plain restatement, and behind a bring.
 
-use super::checks::{varied, NETS};
+use super::checks::{begun, varied, NETS};
 use super::nets::{accepted, Style};
 use super::rng::Rng;
 use super::scripts::{self, bring_friendly, performing_step, STYLE};
 use super::seasons::{add_accepting_thread, SMALL};
-use super::text::{bytes, estimate_rows, net_rows};
-use crate::engine::{Arrival, State, LINES_IN_USE, NONE_BROUGHT};
+use super::text::{arrival_rows, bytes};
+use crate::engine::{Arrival, State, LINES_IN_USE, NONE_TO_WITHDRAW};
 use crate::flow;
 use crate::rows::*;
 
@@ -24,7 +24,7 @@ fn belongs(state: &State, root: u8, q: u8) -> bool {
 fn plain_withdraw(state: &State) -> (Result<u8, Refusal>, State) {
     let refused = |number: u8| (Err(Refusal { number, row: 0 }), state.clone());
     let Some(root) = state.arrivals.iter().map(|arrival| arrival.root).max() else {
-        return refused(NONE_BROUGHT);
+        return refused(NONE_TO_WITHDRAW);
     };
     let own = |q: u8| belongs(state, root, q);
     if state.threads.iter().any(|thread| own(thread.line)) {
@@ -42,10 +42,10 @@ fn plain_withdraw(state: &State) -> (Result<u8, Refusal>, State) {
 }
 
 /// A state begun from a generated net with a thread that takes arrivals in.
-fn begun(rng: &mut Rng, style: &Style) -> State {
+fn begun_accepting(rng: &mut Rng, style: &Style) -> State {
     let (mut net, mut estimate) = accepted(rng, style);
     add_accepting_thread(rng, &mut net, &mut estimate);
-    State::start(&bytes(&net_rows(&net)), &bytes(&estimate_rows(&estimate))).unwrap()
+    begun(&net, &estimate)
 }
 
 /// Calls `look` with each state of generated runs of bring, steps and
@@ -54,7 +54,7 @@ fn each_state(mut look: impl FnMut(&mut Rng, &State, usize)) {
     for seed in 0..NETS / 2 {
         let rng = &mut Rng::new(seed);
         let style = varied(seed, if seed % 2 == 0 { SMALL } else { STYLE });
-        let mut state = begun(rng, &style);
+        let mut state = begun_accepting(rng, &style);
         for _ in 0..TURNS {
             look(rng, &state, style.wildcards);
             match rng.weighted(&[12, 60, 14]) {
@@ -84,7 +84,7 @@ fn withdrawals_agree_with_the_plain_ones() {
         assert_eq!(after, expected);
         match answer {
             Ok(_) => done += 1,
-            Err(refusal) if refusal.number == NONE_BROUGHT => none += 1,
+            Err(refusal) if refusal.number == NONE_TO_WITHDRAW => none += 1,
             Err(_) => in_use += 1,
         }
         let first = after.arrivals.first().map_or(MAX_LINES, |first| usize::from(first.root));
@@ -110,7 +110,7 @@ fn a_bring_is_taken_back() {
             bring_friendly(rng, &mut after, wildcards)
         } else {
             let count = rng.between(1, MAX_LINES);
-            let rows = super::text::arrival_rows(&scripts::chain(count));
+            let rows = arrival_rows(&scripts::chain(count));
             after.bring(&bytes(&rows)).is_ok()
         };
         if !brought {
@@ -127,14 +127,14 @@ fn a_bring_is_taken_back() {
     assert!(taken > 2000 && refused > 100 && busy > 1000, "{counts:?}");
 }
 
-/// "With an empty report guarded and bare calls give the same answers and
-/// states", withdrawals among them.
+/// Demand 3, where nothing is reported: a guarded run and a bare one give the
+/// same answer at every call, withdrawals among them, and equal states after it.
 #[test]
 fn guards_are_idle_where_nothing_is_reported() {
     let (mut performed, mut withdrawn) = (0, 0);
     for seed in 0..NETS / 2 {
         let rng = &mut Rng::new(seed);
-        let mut bare = begun(rng, &varied(seed, SMALL));
+        let mut bare = begun_accepting(rng, &varied(seed, SMALL));
         let places = flow::net_places(&bare.net, &bare.estimate);
         if flow::report(&bare.net, &bare.estimate, &places).iter().any(|&rights| rights != 0) {
             continue;

@@ -19,15 +19,25 @@ pub struct Seen {
     pub row: usize,
 }
 
-/// The counts, and the different rows that were named.
+/// The counts, in how many cases, and the different rows that were named.
 #[derive(Default)]
 pub struct Cover {
     counts: BTreeMap<String, usize>,
+    cases: BTreeMap<String, usize>,
     rows: BTreeMap<String, BTreeSet<usize>>,
 }
 
+/// The different things seen, each once.
+fn things(seen: &[Seen]) -> BTreeSet<&str> {
+    seen.iter().map(|thing| thing.name.as_str()).collect()
+}
+
 impl Cover {
+    /// Adds what is seen in one case.
     pub fn add(&mut self, seen: &[Seen]) {
+        for name in things(seen) {
+            *self.cases.entry(name.to_string()).or_default() += 1;
+        }
         for thing in seen {
             *self.counts.entry(thing.name.clone()).or_default() += 1;
             if thing.row > 0 {
@@ -38,6 +48,15 @@ impl Cover {
 
     pub fn count(&self, name: &str) -> usize {
         self.counts.get(name).copied().unwrap_or(0)
+    }
+
+    fn cases(&self, name: &str) -> usize {
+        self.cases.get(name).copied().unwrap_or(0)
+    }
+
+    /// Whether a thing seen here was seen in fewer cases than wanted.
+    pub fn wants(&self, seen: &[Seen], wanted: usize) -> bool {
+        things(seen).into_iter().any(|name| self.cases(name) < wanted)
     }
 
     /// A row for each thing: how often, and at how many different rows.
@@ -53,11 +72,14 @@ impl Cover {
         table
     }
 
-    /// What is seen less often, or at fewer different rows, than it must be.
+    /// What is seen less often, in fewer cases, or at fewer different rows, than
+    /// it must be.
     pub fn missing(&self, kind: Kind) -> Vec<String> {
         let rows = |name: &str| self.rows.get(name).map_or(0, BTreeSet::len);
         let lacks = |wanted: &Wanted| {
-            self.count(&wanted.name) < wanted.least || rows(&wanted.name) < wanted.rows
+            self.count(&wanted.name) < wanted.least
+                || self.cases(&wanted.name) < wanted.cases
+                || rows(&wanted.name) < wanted.rows
         };
         required(kind).into_iter().filter(lacks).map(|wanted| wanted.name).collect()
     }
@@ -259,7 +281,8 @@ impl Watcher {
             }
             (_, Some([k, m, r]), _) => {
                 self.step(name, before, [k, m, r], &fields);
-                if fields[0] == "performed" && fields[3] == "a" && history.take_in(r) {
+                let accepts = fields[0] == "performed" && fields[3] == "a";
+                if accepts && history.take_in(r, before.threads[k].site) {
                     self.note("accept: an arrival taken in again");
                 }
                 self.lists(before, after);

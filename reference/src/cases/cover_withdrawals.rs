@@ -1,28 +1,22 @@
 //! What cases cover of withdrawals (document 02, No. 8).
 
-use crate::engine::{State, LINES_IN_USE, MAX_THREADS, NONE_BROUGHT};
+use super::seasons::{LONG_ARRIVAL, MANY_LINES, SHORT_ARRIVAL, SPELLINGS};
+use crate::engine::{State, LINES_IN_USE, MAX_THREADS, NONE_TO_WITHDRAW};
 use crate::rows::*;
 use crate::script::{self, Command};
 use std::collections::BTreeMap;
-
-/// The most lines of a short arrival, the fewest of a long one.
-const SHORT: usize = 16;
-const LONG: usize = 60;
-
-/// Lines brought in all that fill the lines many times over.
-const MANY_LINES: usize = 4 * MAX_LINES;
-
-/// Rows like the command that are none.
-const SPELLINGS: [&str; 4] = ["withdraw,", "withdraw,0", "Withdraw", "withdraw "];
 
 /// An arrival that is present.
 struct Present {
     root: usize,
     lines: Vec<Line>,
-    taken_in: bool,
+    /// The sites at which it was taken in.
+    taken_in_at: Mask,
+    /// Whether a step was performed on one of its lines.
+    ran: bool,
 }
 
-/// What an earlier command did.
+/// What the command before did.
 #[derive(Clone, Copy, PartialEq, Default)]
 enum Last {
     #[default]
@@ -90,10 +84,15 @@ impl History {
         seen
     }
 
-    /// Notes that the arrival is taken in; whether it was before.
-    pub fn take_in(&mut self, r: usize) -> bool {
-        let arrival = self.present.iter_mut().find(|arrival| arrival.root == r);
-        arrival.is_some_and(|arrival| std::mem::replace(&mut arrival.taken_in, true))
+    /// Notes that the arrival is taken in at a site; whether it was taken in
+    /// before.
+    pub fn take_in(&mut self, r: usize, site: Site) -> bool {
+        let Some(arrival) = self.present.iter_mut().find(|arrival| arrival.root == r) else {
+            return false;
+        };
+        let again = arrival.taken_in_at != 0;
+        arrival.taken_in_at |= site.bit();
+        again
     }
 
     fn bring(
@@ -128,7 +127,7 @@ impl History {
             seen.push("brought, refused with 2 before a withdrawal".to_string());
             self.refused = None;
         }
-        self.present.push(Present { root, lines, taken_in: false });
+        self.present.push(Present { root, lines, taken_in_at: 0, ran: false });
         Last::Brought
     }
 
@@ -144,23 +143,25 @@ impl History {
         if passes(MANY_LINES) {
             seen.push("1,024 lines in all".to_string());
         }
-        if passes(MANY_LINES) && self.longest <= SHORT {
+        if passes(MANY_LINES) && self.longest <= SHORT_ARRIVAL {
             seen.push("1,024 lines in all, in short arrivals".to_string());
         }
-        if passes(MANY_LINES) && self.longest >= LONG {
+        if passes(MANY_LINES) && self.longest >= LONG_ARRIVAL {
             seen.push("1,024 lines in all, in long arrivals".to_string());
         }
     }
 
     fn refusal(&self, before: &State, number: u8, seen: &mut Vec<String>) {
         seen.push(format!("refused {number}"));
-        if number == NONE_BROUGHT {
+        if number == NONE_TO_WITHDRAW {
             let none = self.withdrawn.is_empty();
             let why = if none { "nothing was brought" } else { "all were withdrawn" };
-            seen.push(format!("refused {NONE_BROUGHT}, {why}"));
+            seen.push(format!("refused {NONE_TO_WITHDRAW}, {why}"));
         }
         if number == LINES_IN_USE {
-            seen.extend(standing(before).map(|what| format!("refused {LINES_IN_USE}, {what}")));
+            let taken_in_at = self.present.last().map_or(0, |arrival| arrival.taken_in_at);
+            let things = standing(before, taken_in_at);
+            seen.extend(things.map(|what| format!("refused {LINES_IN_USE}, {what}")));
         }
         match self.last {
             Last::BringRefused => seen.push(format!("refused {number}, behind a refused bring")),
@@ -185,8 +186,8 @@ impl History {
             ("directly behind bring", self.last == Last::Brought),
             ("behind a refused bring", self.last == Last::BringRefused),
             ("directly behind one", self.last == Last::Withdrawn),
-            ("taken in and run to its end", arrival.taken_in),
-            ("never taken in", !arrival.taken_in),
+            ("taken in and run to its end", arrival.ran),
+            ("never taken in", arrival.taken_in_at == 0),
             ("another is left", !none_left),
             ("three or more in a row, down to none", none_left && self.in_a_row >= 3),
             ("of 256 lines", before.net.lines.len() == MAX_LINES),
@@ -233,7 +234,7 @@ impl History {
     }
 
     fn step(
-        &self,
+        &mut self,
         name: &str,
         before: &State,
         [k, _, r]: [usize; 3],
@@ -243,8 +244,8 @@ impl History {
         let Some(thread) = before.threads.get(k) else { return };
         let at = usize::from(thread.line);
         let line = before.net.lines[at];
-        if answer[0] != "refused" && self.former.get(&at).is_some_and(|former| *former != line) {
-            seen.push("performed, a line whose number had another".to_string());
+        if answer[0] != "refused" {
+            self.performed(at, line, seen);
         }
         if !matches!(line, Line::Accept { .. }) || !self.withdrawn.contains_key(&r) {
             return;
@@ -262,13 +263,25 @@ impl History {
             _ => {}
         }
     }
+
+    /// A step performed on line `at`.
+    fn performed(&mut self, at: usize, line: Line, seen: &mut Vec<String>) {
+        if let Some(arrival) = self.present.iter_mut().rfind(|arrival| arrival.root <= at) {
+            arrival.ran = true;
+        }
+        if self.former.get(&at).is_some_and(|former| *former != line) {
+            seen.push("performed, a line whose number had another".to_string());
+        }
+    }
 }
 
-/// Which threads stand on the newest arrival.
-fn standing(state: &State) -> impl Iterator<Item = &'static str> {
+/// Which threads stand on the newest arrival, which was taken in at these sites:
+/// at another site, if all of them do.
+fn standing(state: &State, taken_in_at: Mask) -> impl Iterator<Item = &'static str> {
     let root = state.arrivals.last().map_or(u8::MAX, |arrival| arrival.root);
     let places: Vec<usize> =
         (0..state.threads.len()).filter(|&k| state.threads[k].line >= root).collect();
+    let elsewhere = |k: &usize| state.threads[*k].site.bit() & taken_in_at == 0;
     let on_root = state.threads.iter().any(|thread| thread.line == root);
     let count = state.threads.len();
     let things = [
@@ -278,6 +291,50 @@ fn standing(state: &State) -> impl Iterator<Item = &'static str> {
         ("by the first of several", places == [0] && count > 1),
         ("by the last of several", places == [count - 1] && count > 1),
         ("by the last of 64", places == [MAX_THREADS - 1]),
+        ("by a thread at another site", places.iter().all(elsewhere)),
     ];
     things.into_iter().filter(|(_, so)| *so).map(|(what, _)| what)
+}
+
+#[cfg(test)]
+mod tests {
+    use super::super::{cover, Kind};
+
+    /// A house at s0 takes arrivals in, and lets them send bodies to s1. The
+    /// first arrival has line 3.
+    const HOUSE: &str = "N,2\nD,0,s1,e\nL,s0,0\nQ,0,rep,1\nQ,1,accept,2,0\nQ,2,nil\n.\n.\n";
+    const TAKE_IN: &str = "step,0,0,0\nstep,1,0,3\n";
+
+    /// How often a thing is seen when these commands are run.
+    fn count(commands: &str, what: &str) -> usize {
+        let seen = cover::seen(Kind::Script, format!("{HOUSE}{commands}").as_bytes());
+        seen.iter().filter(|thing| thing.name == format!("withdraw: {what}")).count()
+    }
+
+    /// A `nil` arrival is taken in, and no step is performed on its line.
+    #[test]
+    fn run_to_its_end() {
+        let nil = format!("bring\nQ,0,nil\n.\n{TAKE_IN}withdraw\n");
+        let par = "bring\nQ,0,par,1,2\nQ,1,nil\nQ,2,nil\n.\n";
+        let never = format!("{par}withdraw\n");
+        let ran = format!("{par}{TAKE_IN}withdraw\nstep,1,0,0\nwithdraw\n");
+        let counts = |what: &str| [&nil, &never, &ran].map(|commands| count(commands, what));
+        assert_eq!(counts("done, a thread elsewhere"), [1, 1, 1]);
+        assert_eq!(counts("done, never taken in"), [0, 1, 0]);
+        assert_eq!(counts("done, taken in and run to its end"), [0, 0, 1]);
+        let later = format!("{ran}{par}withdraw\n");
+        assert_eq!(count(&later, "done, taken in and run to its end"), 1);
+    }
+
+    /// The arrival stands where it was taken in, then its body elsewhere.
+    #[test]
+    fn by_a_thread_at_another_site() {
+        let bring = "bring\nQ,0,eval,1,s1,2,1\nQ,1,nil\nQ,2,par,3,4\nQ,3,nil\nQ,4,nil\n.\n";
+        let here = format!("{bring}{TAKE_IN}withdraw\n");
+        let elsewhere = format!("{here}step,1,0,0\nwithdraw\nstep,1,0,0\nwithdraw\n");
+        let counts = |what: &str| [&here, &elsewhere].map(|commands| count(commands, what));
+        assert_eq!(counts("refused 36"), [1, 2]);
+        assert_eq!(counts("refused 36, by a thread at another site"), [0, 1]);
+        assert_eq!(counts("done, taken in and run to its end"), [0, 1]);
+    }
 }

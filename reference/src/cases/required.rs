@@ -2,14 +2,17 @@
 
 use super::cover::NAMED_SHARES;
 use super::letters;
+use super::seasons::SPELLINGS;
 use super::Kind;
 use crate::listing::MAX_INPUT;
 use crate::rows::*;
 
-/// A thing to be seen, how often at least, and at how many different rows.
+/// A thing to be seen, how often at least, in how many cases, and at how many
+/// different rows.
 pub struct Wanted {
     pub name: String,
     pub least: usize,
+    pub cases: usize,
     pub rows: usize,
 }
 
@@ -18,15 +21,15 @@ const SOME: usize = 2;
 const MANY_ROWS: usize = 10;
 
 fn often(name: impl Into<String>) -> Wanted {
-    Wanted { name: name.into(), least: OFTEN, rows: 0 }
+    Wanted { name: name.into(), least: OFTEN, cases: OFTEN, rows: 0 }
 }
 
 fn some(name: impl Into<String>) -> Wanted {
-    Wanted { name: name.into(), least: SOME, rows: 0 }
+    Wanted { name: name.into(), least: SOME, cases: 1, rows: 0 }
 }
 
 fn at_many_rows(name: String) -> Wanted {
-    Wanted { name, least: OFTEN, rows: MANY_ROWS }
+    Wanted { name, least: OFTEN, cases: OFTEN, rows: MANY_ROWS }
 }
 
 pub fn required(kind: Kind) -> Vec<Wanted> {
@@ -60,8 +63,7 @@ pub fn required(kind: Kind) -> Vec<Wanted> {
             all.extend(read.map(|what| wildcard(format!("{what}, performed"))));
             all.extend(wildcards_refused("bring").into_iter().map(wildcard));
             all.extend(WILDCARD_SCRIPTS.map(wildcard));
-            all.extend(WITHDRAWALS.map(|what| often(format!("withdraw: {what}"))));
-            all.extend(RARE_WITHDRAWALS.map(|what| some(format!("withdraw: {what}"))));
+            all.extend(withdrawals());
         }
     }
     all
@@ -148,7 +150,18 @@ const WILDCARD_SCRIPTS: [&str; 24] = [
     "ready passes over it",
 ];
 
-const WITHDRAWALS: [&str; 46] = [
+fn withdrawals() -> Vec<Wanted> {
+    let mut all = Vec::new();
+    all.extend(WITHDRAWALS.map(|what| often(format!("withdraw: {what}"))));
+    all.extend(SPELLINGS.map(|row| often(format!("withdraw: bad command `{row}`"))));
+    all.extend(RARE_WITHDRAWALS.map(|what| some(format!("withdraw: {what}"))));
+    // Five generated scripts, beside the one in `carriers.rs`.
+    let elsewhere = often("withdraw: refused 36, by a thread at another site");
+    all.push(Wanted { cases: OFTEN + 1, ..elsewhere });
+    all
+}
+
+const WITHDRAWALS: [&str; 42] = [
     "refused 35",
     "refused 35, nothing was brought",
     "refused 35, all were withdrawn",
@@ -191,10 +204,6 @@ const WITHDRAWALS: [&str; 46] = [
     "ready, another place than before",
     "more than 256 lines in all",
     "1,024 lines in all",
-    "bad command `withdraw,`",
-    "bad command `withdraw,0`",
-    "bad command `Withdraw`",
-    "bad command `withdraw `",
 ];
 
 const RARE_WITHDRAWALS: [&str; 5] = [

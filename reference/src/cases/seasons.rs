@@ -2,6 +2,7 @@
 //! it back, so lines fill up over a season." A house takes arrivals in, lets
 //! them run, and sends them away, over and over.
 
+use super::arrivals::sender;
 use super::nets::{accepted, close, shape, some_rights, Style};
 use super::rng::Rng;
 use super::scripts::{chain, choices, doorway, friendly_rows, Aim, Writer, STYLE};
@@ -15,29 +16,24 @@ pub const SMALL: Style = Style { max_lines: 12, max_roots: 3, max_tuples: 5, ..S
 /// How many of a hundred seasons have wildcards.
 const WILDCARDS: usize = 25;
 
-/// Rows like the command that are none.
-const ODD_COMMANDS: &[&str] = &[
-    "withdraw,",
-    "withdraw,0",
-    "Withdraw",
-    "withdraw ",
-    "withdraw,0,0,0",
-    " withdraw",
-    "withdraw\r",
-    "withdrawn",
-    "withdra",
-];
+/// Rows like the command that are none: those that stored scripts must have,
+/// and others.
+pub const SPELLINGS: [&str; 4] = ["withdraw,", "withdraw,0", "Withdraw", "withdraw "];
+const OTHER_SPELLINGS: [&str; 5] =
+    ["withdraw,0,0,0", " withdraw", "withdraw\r", "withdrawn", "withdra"];
 
 /// Attempts at an arrival that is taken in and ends, and steps that it has.
 const ATTEMPTS: usize = 6;
 const MOST_STEPS: usize = 20;
 
 /// Lines that a long season brings in all, and its turns at most.
-const LONG: usize = 4 * MAX_LINES;
+pub const MANY_LINES: usize = 4 * MAX_LINES;
 const MOST_TURNS: usize = 120;
 
-/// The most lines of a short arrival.
-const SHORT: usize = 16;
+/// The most lines of a short arrival, and the fewest and the most of a long one.
+pub const SHORT_ARRIVAL: usize = 16;
+pub const LONG_ARRIVAL: usize = 60;
+const LONGEST_ARRIVAL: usize = 2 * LONG_ARRIVAL;
 
 pub fn case(rng: &mut Rng) -> Vec<u8> {
     let style = if rng.chance(WILDCARDS) { SMALL.with_wildcards(rng) } else { SMALL };
@@ -90,7 +86,7 @@ fn fit_sandbox(rng: &mut Rng, net: &mut Net, estimate: &Estimate, site: Site, k:
             sandbox.towards[tuple.site.index()] |= some_rights(rng);
         }
     }
-    if rng.chance(40) {
+    if rng.chance(60) {
         sandbox.towards[rng.below(usize::from(net.sites))] |= EVAL;
     }
     if rng.chance(80) {
@@ -147,7 +143,7 @@ impl Season<'_> {
     }
 
     fn turn(&mut self) {
-        match self.writer.rng.weighted(&[26, 12, 9, 9, 16, 14, 6, 5, 3]) {
+        match self.writer.rng.weighted(&[18, 12, 9, 9, 16, 14, 6, 5, 3, 8]) {
             0 => self.run_and_withdraw(),
             1 => self.at_once(),
             2 => self.behind_refused(),
@@ -156,7 +152,8 @@ impl Season<'_> {
             5 => self.beside_older(),
             6 => self.fill_lines(),
             7 => self.odd(),
-            _ => self.full_threads(),
+            8 => self.full_threads(),
+            _ => self.send_elsewhere(),
         }
     }
 
@@ -176,7 +173,7 @@ impl Season<'_> {
         self.run_and_withdraw();
         self.withdraw_all();
         for _ in 0..MOST_TURNS {
-            if self.lines < LONG {
+            if self.lines < MANY_LINES {
                 turn(self);
                 self.withdraw_all();
             }
@@ -263,6 +260,18 @@ impl Season<'_> {
         rows
     }
 
+    /// Rows of an arrival that sends a body to another site and ends, if the
+    /// sandbox that it comes under allows it; else of one that ends.
+    fn sending_arrival(&mut self) -> Rows {
+        self.open();
+        let Writer { rng, state, wildcards, .. } = &mut self.writer;
+        let (l, d) = doorway(rng, state);
+        match sender(rng, state, *wildcards, l, d) {
+            Some(lines) => arrival_rows(&lines),
+            None => self.ending_arrival(),
+        }
+    }
+
     /// Rows of an arrival that a door may pass or not.
     fn any_rows(&mut self) -> Rows {
         match self.writer.rng.weighted(&[45, 45, 10]) {
@@ -320,13 +329,26 @@ impl Season<'_> {
     /// An arrival is brought, taken in, runs, and is sent away.
     fn run_and_withdraw(&mut self) {
         let rows = self.ending_arrival();
-        let Some(root) = self.bring(&rows) else {
+        self.run(&rows, 25);
+    }
+
+    /// Likewise, and a body that the arrival sent runs on at another site when
+    /// its own thread has ended.
+    fn send_elsewhere(&mut self) {
+        let rows = self.sending_arrival();
+        self.run(&rows, 50);
+    }
+
+    /// Brings an arrival, takes it in and lets it run; `asked` is how often a
+    /// withdrawal is tried behind a step.
+    fn run(&mut self, rows: &[Vec<u8>], asked: usize) {
+        let Some(root) = self.bring(rows) else {
             return self.withdraw_sometimes(50);
         };
         self.ask_door(root, 30);
         self.take_in(root);
         self.withdraw_sometimes(40);
-        self.run_out(root, 25);
+        self.run_out(root, asked);
         let _ = self.withdraw();
         self.withdraw_sometimes(25);
     }
@@ -359,7 +381,7 @@ impl Season<'_> {
     fn several(&mut self) {
         for _ in 0..self.writer.rng.between(3, 7) {
             let rows = self.any_rows();
-            if rows.len() <= SHORT {
+            if rows.len() <= SHORT_ARRIVAL {
                 self.bring(&rows);
             }
         }
@@ -417,7 +439,8 @@ impl Season<'_> {
         }
         loop {
             let free = MAX_LINES - self.writer.state.net.lines.len();
-            let count = self.writer.rng.between(60, 120).min(free.saturating_sub(left));
+            let long = self.writer.rng.between(LONG_ARRIVAL, LONGEST_ARRIVAL);
+            let count = long.min(free.saturating_sub(left));
             if count == 0 || self.bring(&arrival_rows(&chain(count))).is_none() {
                 break;
             }
@@ -432,8 +455,8 @@ impl Season<'_> {
     /// Rows that are not the command.
     fn odd(&mut self) {
         for _ in 0..self.writer.rng.between(1, 4) {
-            let words = if self.chance(60) { &ODD_COMMANDS[..4] } else { ODD_COMMANDS };
-            let odd = *self.writer.rng.pick(words);
+            let rows = if self.chance(78) { &SPELLINGS[..] } else { &OTHER_SPELLINGS };
+            let odd = *self.writer.rng.pick(rows);
             self.writer.row(odd);
             self.withdraw_sometimes(30);
         }

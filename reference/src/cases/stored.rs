@@ -4,7 +4,7 @@
 //! in a case is seen several times.
 
 use super::carriers;
-use super::cover::{seen, Cover, Seen};
+use super::cover::{seen, Cover};
 use super::heavy::{ESTIMATE, NET};
 use super::ledgers;
 use super::letters::every_set;
@@ -88,43 +88,15 @@ pub fn fixed(kind: Kind) -> Vec<Vec<u8>> {
     }
 }
 
-/// The different things seen, each once.
-fn things(seen: &[Seen]) -> Vec<&str> {
-    let mut names: Vec<&str> = seen.iter().map(|thing| thing.name.as_str()).collect();
-    names.sort_unstable();
-    names.dedup();
-    names
-}
-
-/// In how many chosen cases each thing is seen.
-#[derive(Default)]
-struct Spread(BTreeMap<String, usize>);
-
-impl Spread {
-    fn adds(&self, seen: &[Seen], wanted: usize) -> bool {
-        things(seen).into_iter().any(|name| self.0.get(name).copied().unwrap_or(0) < wanted)
-    }
-
-    fn add(&mut self, seen: &[Seen]) {
-        for name in things(seen) {
-            *self.0.entry(name.to_string()).or_default() += 1;
-        }
-    }
-}
-
 /// The stored cases of a kind, and what they cover.
 pub fn choose(kind: Kind) -> (Vec<Vec<u8>>, Cover) {
     let plan = match kind {
         Kind::Listing => &LISTINGS,
         Kind::Script => &SCRIPTS,
     };
-    let (mut spread, mut cover) = (Spread::default(), Cover::default());
+    let mut cover = Cover::default();
     let mut cases = fixed(kind);
-    for case in &cases {
-        let seen = seen(kind, case);
-        spread.add(&seen);
-        cover.add(&seen);
-    }
+    cases.iter().for_each(|case| cover.add(&seen(kind, case)));
     let mut chosen = BTreeMap::new();
     for (most, wanted) in
         [(plan.small, WANTED), (usize::MAX, WANTED_LARGE), (plan.small, usize::MAX)]
@@ -136,8 +108,7 @@ pub fn choose(kind: Kind) -> (Vec<Vec<u8>>, Cover) {
                 continue;
             }
             let seen = seen(kind, &case);
-            if spread.adds(&seen, wanted) {
-                spread.add(&seen);
+            if cover.wants(&seen, wanted) {
                 cover.add(&seen);
                 chosen.insert(seed, case);
             }
