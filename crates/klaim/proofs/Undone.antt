@@ -43,7 +43,11 @@ module _ (st : State) (ls : List Line) where
       ∙ ap (λ (b : Bool). cond b (refuse 36 0 (joined st ls)) (record { answer = gives (withdrawn new); state = freed (joined st ls) new })) (joined-unoccupied i)
       ∙ ap (λ (s : State). record { answer = gives (withdrawn new); state = s }) joined-freed
 
-bringRead-undone : (st : State) (x : Answer (List Line)) (e : Event) → Invariant st → bringRead st x .answer ≡ gives e → (q : ℕ) × (bringRead st x .answer ≡ gives (brought q)) × (withdraw (bringRead st x .state) ≡ record { answer = gives (withdrawn q); state = st })
+-- what bring answers, and the withdrawal behind it
+abbrev Behind : State → Answer (List Line) → Type 0
+Behind st x = (q : ℕ) × (bringRead st x .answer ≡ gives (brought q)) × (withdraw (bringRead st x .state) ≡ record { answer = gives (withdrawn q); state = st })
+
+bringRead-undone : (st : State) (x : Answer (List Line)) (e : Event) → Invariant st → bringRead st x .answer ≡ gives e → Behind st x
 unfolding bringRead
 bringRead-undone st (refused n row) e i h = refused-none h
 bringRead-undone st (gives ls) e i h = (length (st .lines), refl, joined-undone st ls i)

@@ -10,7 +10,7 @@ use threads::Thread;
 
 // What the call behind the state answered: `number` is that of a refusal, with its row, or 0. `event` is what a call that was not
 // refused did: BROUGHT or WITHDRAWN an arrival, SILENT, or PERFORMED a right on a target. `site` is the line of the arrival's root,
-// or the thread's site.
+// or the thread's site. A call by value writes these numbers one by one: a struct put in their place would copy the threads beside it.
 pub struct Told {
     pub number: u8,
     pub row: usize,

@@ -40,6 +40,10 @@ module _ (st : State) (f : Fits st) where
   unfolding withdraw withdrawRoot stateView newest
   none-refused z = ap (λ (n : ℕ). withdrawRoot (stateView st) (newest (take n (st .arrivals)))) z
 
+  -- a thread stands on line r or on one behind it, as the code finds it
+  abbrev pub standing : ℕ → Bool
+  standing r = any (λ th. leb r (th .line)) (threadsView (st .run .nthreads) (st .run .threads))
+
   module _ (h : 0 < st .narrivals) where
     -- how many older arrivals there are
     abbrev left : ℕ
@@ -67,14 +71,14 @@ module _ (st : State) (f : Fits st) where
     roots-rise = subst (λ (rs : List ℕ). rising (rs ++ (root ∷ [])) ≡ true) (older-take (st .arrivals) (st .narrivals) h few) (rises (stateView st) (f .invariant) root root-newest)
 
     -- withdraw, by whether a thread stands on one of the arrival's lines
-    by-threads : (b : Bool) → any (λ th. leb root (th .line)) (threadsView (st .run .nthreads) (st .run .threads)) ≡ b → withdraw (stateView st) ≡ cond b (refuse 36 0 (stateView st)) (record { answer = gives (withdrawn root); state = freed (stateView st) root })
+    by-threads : (b : Bool) → standing root ≡ b → withdraw (stateView st) ≡ cond b (refuse 36 0 (stateView st)) (record { answer = gives (withdrawn root); state = freed (stateView st) root })
     unfolding withdraw withdrawRoot occupied stateView
     by-threads b o =
         ap (withdrawRoot (stateView st)) root-newest
         ∙ ap (λ (x : Bool). cond x (refuse 36 0 (stateView st)) (record { answer = gives (withdrawn root); state = freed (stateView st) root })) o
 
     -- 36
-    pub occupied-refused : any (λ th. leb root (th .line)) (threadsView (st .run .nthreads) (st .run .threads)) ≡ true → withdraw (stateView st) ≡ refuse 36 0 (stateView st)
+    pub occupied-refused : standing root ≡ true → withdraw (stateView st) ≡ refuse 36 0 (stateView st)
     occupied-refused o = by-threads true o
 
     -- the state behind a withdrawal
@@ -122,7 +126,7 @@ module _ (st : State) (f : Fits st) where
         (ap (λ (ls : List Line). tree ls (getD (st .arrivals) i 0)) (sym (first-lines (st .nlines) root (st .lines) root-low))
         ∙ kept-tree (stateView st) (f .invariant) root root-newest (getD (st .arrivals) i 0) (older-low i k))
 
-    pub freed-withdrawn : any (λ th. leb root (th .line)) (threadsView (st .run .nthreads) (st .run .threads)) ≡ false → (told : Told) → answerView told ≡ gives (withdrawn root) → Withdrawn st (behind told)
+    pub freed-withdrawn : standing root ≡ false → (told : Told) → answerView told ≡ gives (withdrawn root) → Withdrawn st (behind told)
     unfolding resultView
     freed-withdrawn o told w = record {
       result = rw (behind-view told, w) (sym (by-threads false o));

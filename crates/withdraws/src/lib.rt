@@ -32,8 +32,7 @@ fn occupied(run: Run, r: u8) -> bool
 }
 
 // The newest arrival withdrawn: the answer is its root's line number, or a refusal. Its lines are those from the root on. Only the counts
-// go back: what a table holds behind its count is no part of a state. The answer is written number by number, since a struct put there
-// would copy the threads.
+// go back: what a table holds behind its count is no part of a state.
 pub fn withdraw(state: State) -> State
     requires { ⌜ Fits state ⌝ }
     ensures { λ next. ⌜ Withdrawn state next ⌝ }
