@@ -12,23 +12,29 @@ use std::cell::RefCell;
 use std::slice::from_ref;
 
 const ROUNDS: usize = 15;
-/// Seconds that one measurement takes at least.
+/// Seconds that one measurement takes at least, what is taken off not counted;
+/// and at most, where that is nearly all.
 const LEAST: f64 = 0.004;
+const MOST: f64 = 0.1;
 /// Calls for the comparison of answers; a multiple of each cycle's steps.
 const SAMPLE: usize = 24;
 
-const CALLS: [&str; 10] = [
+const CALLS: [&str; 11] = [
     "check",
     "read",
     "list",
     "start",
     "bring",
     "withdraw",
+    WITH_COPY,
     "step",
     "guarded step",
     "ready",
     "door",
 ];
+
+/// `withdraw`, the reference's copy of the state counted.
+const WITH_COPY: &str = "withdraw+copy";
 
 /// Does its work as often as asked, and answers a number.
 type Work<'a> = Box<dyn Fn(usize) -> u32 + 'a>;
@@ -83,10 +89,13 @@ fn seconds(work: &Work, count: usize) -> f64 {
 /// How often a side must work for a measurement to be long enough.
 fn enough(side: &Side) -> usize {
     let mut count = 1;
-    while seconds(&side.work, count) < LEAST + seconds(&side.idle, count) {
+    loop {
+        let work = seconds(&side.work, count);
+        if work >= MOST || work >= LEAST + seconds(&side.idle, count) {
+            return count;
+        }
         count *= 2;
     }
-    count
 }
 
 fn once(side: &Side, count: usize) -> f64 {
@@ -205,6 +214,14 @@ fn bring_job(heavy: &Heavy) -> Job<'_> {
     job
 }
 
+/// As for `bring`, the reference's copies of the state are taken off; or not.
+fn withdraw_jobs(heavy: &Heavy) -> [Job<'_>; 2] {
+    let job = |call| pair(call, heavy, ours::withdraw, |heavy, n| theirs::withdraw(heavy, true, n));
+    let mut alone = job("withdraw");
+    alone.sides[1].idle = Box::new(move |count| theirs::withdraw(heavy, false, count));
+    [alone, job(WITH_COPY)]
+}
+
 /// The door for a root, a site and a sandbox.
 fn door_job(heavy: &Heavy, at: [u8; 3]) -> Job<'_> {
     let theirs = move |heavy, n| theirs::door(heavy, at, n);
@@ -221,8 +238,7 @@ fn jobs<'a>(inputs: &'a Inputs) -> Vec<Job<'a>> {
     jobs.extend([march, large, mixed].map(start_job));
     jobs.extend(cycles.iter().filter(|heavy| !heavy.arrival.is_empty()).map(bring_job));
     jobs.extend(arrived.iter().map(bring_job));
-    let withdraw = |heavy| pair("withdraw", heavy, ours::withdraw, theirs::withdraw);
-    jobs.extend(withdrawals.iter().map(withdraw));
+    jobs.extend(withdrawals.iter().flat_map(withdraw_jobs));
     let steps = |heavy, n| theirs::steps(heavy, false, n);
     jobs.extend(cycles.iter().map(|heavy| pair("step", heavy, ours::steps, steps)));
     jobs.extend(refusals.iter().map(|heavy| pair("step", heavy, ours::steps, steps)));

@@ -86,14 +86,17 @@ pub fn bring(heavy: &Heavy, bring: bool, count: usize) -> u32 {
     placed(&last)
 }
 
-/// The newest arrival withdrawn from copies of one state. Answers how many
-/// lines the last one has, and the place that is ready.
-pub fn withdraw(heavy: &Heavy, count: usize) -> u32 {
+/// The newest arrival withdrawn from copies of one state; without `withdraw`,
+/// the copies alone. Answers how many lines the last one has, and the place
+/// that is ready.
+pub fn withdraw(heavy: &Heavy, withdraw: bool, count: usize) -> u32 {
     let state = stepped(heavy);
     let mut last = state.clone();
     for _ in 0..count {
         last = state.clone();
-        let _ = last.withdraw();
+        if withdraw {
+            let _ = last.withdraw();
+        }
         black_box(&last);
     }
     last.net.lines.len() as u32 * PLACES + placed(&last)
