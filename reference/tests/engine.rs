@@ -1,5 +1,5 @@
 //! Engine scripts: net M with two arrivals, full lists, bring and withdraw,
-//! bindings.
+//! bindings, sandboxes with and without a row for `self`.
 
 mod common;
 use common::*;
@@ -246,14 +246,107 @@ fn door_and_eval_lines() {
             ("door,2,0,0", "passes"),
             ("door,5,0,0", "passes"),
             ("door,9,0,0", "closed"),
-            // Sandbox 0 at s1 holds nothing, for lack of a row `self`.
-            ("door,13,0,0", "passes"),
+            // Sandbox 0 at s1 holds e on s1, for lack of a row `self`; no E row
+            // has it.
+            ("door,13,0,0", "closed"),
             ("door,16,0,0", "closed"),
-            ("door,2,1,0", "closed"),
+            ("door,2,1,0", "passes"),
             ("step,0,0,9", "refused,25,0"),
             ("step,0,0,5", "performed,s0,s0,a"),
         ],
     );
+}
+
+/// A house whose arrivals read where they are taken in. Sandboxes 0 to 5 have r
+/// there, and for `self`: no row, all rights, r, none, another right, no row
+/// but `-` towards another site. Sandbox 6 has `-` there, and no row for `self`.
+const DOORS: &str = "N,2 R,s0,s0,ra D,0,s0,r D,1,s0,r D,1,self,oirea D,2,s0,r D,2,self,r \
+    D,3,s0,r D,3,self,- D,4,s0,r D,4,self,oiea D,5,s0,r D,5,s1,- D,6,s0,- T,s0,s1";
+
+/// "a sandbox with no `self` row has all five rights for `self`."
+#[test]
+fn door_and_self() {
+    let net = format!("{DOORS} L,s0,0 L,s0,2 Q,0,accept,1,3 Q,1,nil Q,2,accept,3,0 Q,3,nil");
+    expect(
+        &net,
+        "A,s0,s1",
+        &[
+            ("ready", "ready,none"),
+            ("bring Q,0,read,1,self,s1 Q,1,nil .", "brought,4"),
+            ("bring Q,0,read,1,s0,_ Q,1,nil .", "brought,6"),
+            ("bring Q,0,in,1,self,s1 Q,1,nil .", "brought,8"),
+            ("door,4,0,0", "passes"),
+            ("door,4,0,1", "passes"),
+            ("door,4,0,2", "passes"),
+            ("door,4,0,3", "closed"),
+            ("door,4,0,4", "closed"),
+            ("door,4,0,5", "passes"),
+            ("door,4,0,6", "closed"),
+            // At s1 each of them has r on s0, and nothing on s1.
+            ("door,6,1,3", "passes"),
+            ("door,4,1,0", "closed"),
+            ("door,6,1,6", "closed"),
+            ("door,8,0,0", "closed"),
+            // No row at all.
+            ("door,4,0,31", "closed"),
+            ("ready", "ready,1"),
+            ("step,0,0,4", "refused,25,0"),
+            ("guarded,0,0,4", "refused,25,0"),
+            ("guarded,1,0,4", "performed,s0,s0,a"),
+            ("guarded,1,0,0", "performed,s0,s0,r"),
+            ("ready", "ready,none"),
+        ],
+    );
+}
+
+/// The arrival's eval lines: what the sandbox holds at the receiving site must
+/// be in its E rows, and what the body does must be sure.
+#[test]
+fn door_and_self_of_bodies() {
+    let net = |own: &str| format!("N,2 D,0,s1,e D,1,s1,r {own} L,s0,0 Q,0,accept,1,0 Q,1,nil");
+    let body = "bring Q,0,eval,1,s1,2,1 Q,1,nil Q,2,read,3,self,s0 Q,3,nil .";
+    let idle = "bring Q,0,eval,1,s1,2,1 Q,1,nil Q,2,nil .";
+    for (own, estimate, answers) in [
+        ("", "", ["closed", "closed"]),
+        ("", "E,s1,s1,r", ["passes", "passes"]),
+        ("D,1,self,-", "", ["closed", "passes"]),
+        ("D,1,self,-", "E,s1,s1,r", ["closed", "passes"]),
+        ("D,1,self,or", "", ["closed", "closed"]),
+        ("D,1,self,or", "E,s1,s1,r", ["passes", "passes"]),
+        ("D,1,self,o", "", ["closed", "passes"]),
+    ] {
+        let asked = [("door,2,0,0", answers[0]), ("door,6,0,0", answers[1])];
+        let commands = [(body, "brought,2"), (idle, "brought,6"), asked[0], asked[1]];
+        expect(&net(own), estimate, &commands);
+    }
+}
+
+/// What the threads of a body hold on the two sites, and what their guarded
+/// steps answer, for a row `self` of its sandbox.
+#[test]
+fn guarded_steps_and_self() {
+    let net = |own: &str| {
+        format!(
+            "N,2 R,s1,s1,oire D,0,s0,a D,0,s1,oir {own} T,s1,s0 L,s0,0 Q,0,eval,1,s1,2,0 Q,1,nil \
+            Q,2,par,3,5 Q,3,read,4,self,s0 Q,4,nil Q,5,out,6,s1,s1 Q,6,nil"
+        )
+    };
+    let (read, out, refused) = ("performed,s1,s1,r", "performed,s1,s1,o", "refused,26,0");
+    for (own, held, answers) in [
+        ("", "1007", [out, read]),
+        ("D,0,self,oirea", "1007", [out, read]),
+        ("D,0,self,rea", "1004", [refused, read]),
+        ("D,0,self,o", "1001", [out, refused]),
+        ("D,0,self,-", "1000", [refused, refused]),
+    ] {
+        let sent = [("step,0,0,0", "performed,s0,s1,e"), ("step,0,0,0", "silent")];
+        let state = expect(&net(own), "", &sent);
+        let policy = format!("{held}{}", "00".repeat(30));
+        assert_eq!(state[1], format!("thread,s1,{policy},3,-"), "{own}");
+        assert_eq!(state[2], format!("thread,s1,{policy},5,-"), "{own}");
+        let guarded = [("guarded,1,0,0", answers[0]), ("guarded,0,0,0", answers[1])];
+        expect(&net(own), "", &[sent, guarded].concat());
+    }
 }
 
 /// The bodies' sandboxes hold r and o on s0; the home policy of s1 holds o

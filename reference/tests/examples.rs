@@ -1,6 +1,6 @@
 //! The nine examples that document 01 marks as proved, the small cases
-//! around them, and what document 02 says of wildcards (No. 1) and of shares
-//! (No. 7).
+//! around them, and what document 02 says of wildcards (No. 1), of sandboxes
+//! silent about `self` (No. 3) and of shares (No. 7).
 
 mod common;
 use common::*;
@@ -160,30 +160,108 @@ fn input_size() {
     assert_eq!(text_listing(&format!("{filler}\n")), "refused,2,0");
 }
 
-/// "Joining d(l) with d(self)" and "the union over a reach" are errors: the
-/// body may use r on s0 at s0 only with a `self` row, and on both sites of
-/// the reach only what is sure.
-#[test]
-fn sandbox_at_its_own_site() {
-    let net = "N,2 R,s0,s0,ire D,0,s0,r T,s0,s0 L,s0,0 Q,0,eval,1,s0,2,0 Q,1,nil Q,2,read,3,s0,s0 Q,3,nil";
-    let accepted = listing(net, "A,s0,s0");
-    assert_eq!(accepted, "accepted,1 V,s0,s0,r U,s0,3,1,333 U,s1,0,0,0");
-    let with_own = net.replace("D,0,s0,r", "D,0,s0,r D,0,self,or");
-    assert_eq!(listing(&with_own, "A,s0,s0"), "broken,Q,0");
-    let accepted = listing(&with_own, "A,s0,s0 E,s0,s0,r");
-    assert_eq!(accepted, "accepted,0 U,s0,3,2,667 U,s1,0,0,0");
+/// A body is sent to the site where it is, and reads there; `SELF` is the
+/// sandbox's row for `self`.
+const AT_HOME: &str = "N,2 R,s0,s0,ire D,0,s0,r SELF T,s0,s0 L,s0,0 Q,0,eval,1,s0,2,0 Q,1,nil \
+    Q,2,read,3,s0,s0 Q,3,nil";
+
+/// The listings for a row `self` (none if empty), without and with `E,s0,s0,r`.
+fn at_home(own: &str) -> [String; 2] {
+    let net = AT_HOME.replace("SELF", own);
+    [listing(&net, "A,s0,s0"), listing(&net, "A,s0,s0 E,s0,s0,r")]
 }
 
+/// "Joining d(l) with d(self)" is an error: the body may use r on s0 at s0 only
+/// if the `self` row has it. "a sandbox with no `self` row has all five rights
+/// for `self`" (document 02, No. 3).
+#[test]
+fn sandbox_at_its_own_site() {
+    let reported = "accepted,1 V,s0,s0,r U,s0,3,1,333 U,s1,0,0,0";
+    let reported_with_row = "accepted,1 V,s0,s0,r U,s0,3,2,667 U,s1,0,0,0";
+    let empty = "accepted,0 U,s0,3,2,667 U,s1,0,0,0";
+    for own in ["", "D,0,self,r", "D,0,self,or", "D,0,self,oirea", "D,1,self,-", "D,0,s1,-"] {
+        assert_eq!(at_home(own), ["broken,Q,0", empty], "{own}");
+    }
+    for own in ["D,0,self,-", "D,0,self,o", "D,0,self,oiea"] {
+        assert_eq!(at_home(own), [reported, reported_with_row], "{own}");
+    }
+}
+
+/// `-` towards a site is a row without rights, as if there were none; it is no
+/// row for `self`, even where the body is at that site.
+#[test]
+fn no_rights_towards_a_site() {
+    for own in ["", "D,0,self,r", "D,0,self,-", "D,0,self,oirea"] {
+        let net = AT_HOME.replace("SELF", own);
+        let (empty, none) = (net.replace("D,0,s0,r", "D,0,s0,-"), without(&net, "D,0,s0,r"));
+        for estimate in ["A,s0,s0", "A,s0,s0 E,s0,s0,r"] {
+            assert_eq!(listing(&empty, estimate), listing(&none, estimate), "{own}");
+            assert!(listing(&empty, estimate).starts_with("accepted,1 V,s0,s0,r"), "{own}");
+        }
+    }
+}
+
+/// "The union over a reach" is an error: on both sites of a reach the body has
+/// only what is sure. A `self` row takes rights from the site where the body
+/// is, and so from each site of the reach; without one they are all kept.
 #[test]
 fn sure_rights_over_a_reach() {
-    let net = "N,2 R,s0,s0,ire R,s0,s1,ire D,0,s0,r D,0,s1,r T,s0,s0 T,s0,s1 L,s0,0 \
-        Q,0,read,1,s0,!u0 Q,1,eval,2,u0,3,0 Q,2,nil Q,3,read,4,s0,s1 Q,4,nil";
+    let net = |own: &str| {
+        format!(
+            "N,2 R,s0,s0,ire R,s0,s1,ire D,0,s0,r D,0,s1,r {own} T,s0,s0 T,s0,s1 L,s0,0 \
+            Q,0,read,1,s0,!u0 Q,1,eval,2,u0,3,0 Q,2,nil Q,3,read,4,s0,s1 Q,4,nil"
+        )
+    };
     let estimate = "B,u0,s0 B,u0,s1 A,s0,s0 A,s0,s1 E,s0,s0,r E,s0,s1,r E,s1,s0,r E,s1,s1,r";
-    let accepted = listing(net, estimate);
-    let expected = "accepted,3 V,s0,s0,r V,s1,s0,r V,s1,s1,r U,s0,6,4,667 U,s1,0,0,0";
-    assert_eq!(accepted, expected);
-    // The sandbox evaluated at s1 holds r on s0: E rows of s0 must have it.
-    assert_eq!(listing(net, &without(estimate, "E,s0,s0,r")), "broken,Q,1");
+    let unsure = "accepted,3 V,s0,s0,r V,s1,s0,r V,s1,s1,r U,s0,6,4,667 U,s1,0,0,0";
+    let sure = "accepted,2 V,s1,s0,r V,s1,s1,r U,s0,6,4,667 U,s1,0,0,0";
+    for (own, expected) in [
+        ("D,0,self,-", unsure),
+        ("D,0,self,oiea", unsure),
+        ("D,0,self,r", sure),
+        ("D,0,self,oirea", sure),
+        ("", sure),
+    ] {
+        assert_eq!(listing(&net(own), estimate), expected, "{own}");
+        // The sandbox evaluated at s1 holds r on s0: E rows of s0 must have it.
+        assert_eq!(listing(&net(own), &without(estimate, "E,s0,s0,r")), "broken,Q,1", "{own}");
+    }
+}
+
+/// The sandbox is another policy at s1 than at s2: of what it has towards each
+/// of them, only what the `self` row has too is sure.
+#[test]
+fn sure_rights_differ_by_site() {
+    let home = "R,s0,s0,i R,s0,s1,e R,s0,s2,e R,s1,s1,or R,s1,s2,ir R,s2,s1,or R,s2,s2,ir";
+    let lines = "Q,0,in,1,s0,!u0 Q,1,eval,2,u0,3,0 Q,2,nil Q,3,par,4,6 Q,4,out,5,s1,s0 Q,5,nil \
+        Q,6,par,7,9 Q,7,in,8,s2,s0 Q,8,nil Q,9,read,10,self,s0 Q,10,nil";
+    let estimate = "B,u0,s1 B,u0,s2 A,s0,s1 A,s0,s2 A,s1,s0 E,s1,s1,or E,s1,s2,ir \
+        E,s2,s1,or E,s2,s2,ir";
+    for (own, expected) in [
+        ("", "accepted,0"),
+        ("D,0,self,oir", "accepted,0"),
+        ("D,0,self,or", "accepted,2 V,s1,s2,i V,s2,s2,i"),
+        ("D,0,self,o", "accepted,6 V,s1,s1,r V,s1,s2,ir V,s2,s1,r V,s2,s2,ir"),
+        ("D,0,self,-", "accepted,8 V,s1,s1,or V,s1,s2,ir V,s2,s1,or V,s2,s2,ir"),
+    ] {
+        let net = format!("N,3 {home} D,0,s1,or D,0,s2,ir {own} T,s0,s1 T,s0,s2 L,s0,0 {lines}");
+        assert_eq!(listing(&net, estimate).split(" U,").next(), Some(expected), "{own}");
+    }
+}
+
+/// An `accept` adds the sandbox evaluated at its place.
+#[test]
+fn accepts_and_self() {
+    let net = |own: &str| format!("N,1 R,s0,s0,a D,0,s0,or {own} L,s0,0 Q,0,accept,1,0 Q,1,nil");
+    for (own, expected) in [
+        ("", "accepted,2 V,s0,s0,or U,s0,1,1,1000"),
+        ("D,0,self,oirea", "accepted,2 V,s0,s0,or U,s0,1,1,1000"),
+        ("D,0,self,ri", "refused,1,4"),
+        ("D,0,self,ir", "accepted,1 V,s0,s0,r U,s0,1,1,1000"),
+        ("D,0,self,-", "accepted,0 U,s0,1,1,1000"),
+    ] {
+        assert_eq!(listing(&net(own), ""), expected, "{own}");
+    }
 }
 
 #[test]

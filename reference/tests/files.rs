@@ -7,8 +7,11 @@ use std::fs;
 const FOLDER: &str = concat!(env!("CARGO_MANIFEST_DIR"), "/../examples/");
 
 /// Each file, and its listing up to the U rows.
-const LISTINGS: [(&str, &str); 10] = [
+const LISTINGS: [(&str, &str); 13] = [
     ("carrier.txt", "accepted,0"),
+    ("inspector.txt", "accepted,0"),
+    ("inspector_before.txt", "broken,Q,0"),
+    ("inspector_closed.txt", "accepted,1 V,s1,s1,r"),
     ("lab.txt", "accepted,0"),
     ("lab_broken.txt", "broken,Q,4"),
     ("lab_misread.txt", "accepted,1 V,s1,s3,o"),
@@ -78,6 +81,30 @@ fn a_day_of_the_warehouse() {
     let output = lines_of(&reference::script::run(input.as_bytes()));
     assert_eq!(output[1..=ANSWERS.len()], ANSWERS);
     assert_eq!(output[1 + ANSWERS.len()], "state,2,2,5");
+}
+
+/// The three files differ in the row `D,0,self,-` and in an E row.
+#[test]
+fn one_inspector_in_three_files() {
+    let (silent, before, closed) =
+        (text("inspector.txt"), text("inspector_before.txt"), text("inspector_closed.txt"));
+    assert_eq!(silent.replace("E,s1,s1,r\n", ""), before);
+    assert_eq!(closed.replace("D,0,self,-\n", ""), before);
+    assert!(silent.contains("E,s1,s1,r\n") && closed.contains("D,0,self,-\n"));
+}
+
+/// The inspector is sent, and reads at the site where it then is.
+#[test]
+fn the_inspector_reads() {
+    for (file, answer) in [
+        ("inspector.txt", "performed,s1,s1,r"),
+        ("inspector_before.txt", "performed,s1,s1,r"),
+        ("inspector_closed.txt", "refused,26,0"),
+    ] {
+        let input = text(file) + ".\nguarded,0,0,0\nguarded,1,0,0\n";
+        let output = lines_of(&reference::script::run(input.as_bytes()));
+        assert_eq!(output[1..3], ["performed,s0,s1,e", answer], "{file}");
+    }
 }
 
 /// The thread's bindings behind two steps.

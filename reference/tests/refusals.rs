@@ -103,6 +103,110 @@ fn forms() {
     assert_eq!(text_listing("N,1\n\n.\n"), "refused,1,2");
 }
 
+/// Rows in which `-` stands where it may not, and rights that are none.
+const MALFORMED_RIGHTS: &[&str] = &[
+    "R,s0,s0,-",
+    "E,s0,s0,-",
+    "D,0,s0,--",
+    "D,0,s0,-o",
+    "D,0,s0,o-",
+    "D,0,s0,",
+    "D,0,s0",
+    "D,0,s0,-,",
+    "D,0,s0,-,-",
+    "D,0,s0, -",
+    "D,0,s0,- ",
+    "D,0,s0,-\r",
+    "D,0,s0,oirea-",
+    "D,0,s0,-oirea",
+    "D,0,s0,o-i",
+    "D,0,s0,0",
+    "D,0,self,--",
+    "D,0,self,-o",
+    "D,0,self,o-",
+    "D,0,self,",
+    "D,0,self",
+    "D,0,-,o",
+    "D,0,-,-",
+    "D,-,s0,o",
+    "D,-,self,-",
+    "D,0,-",
+    "D,-",
+    "D,0,u0,-",
+    "D,0,!u0,-",
+    "D,0,_,-",
+    "D,s0,s0,-",
+    "D,0,s0,\u{2212}",
+    "R,s0,s0,o-",
+    "R,s0,-,o",
+    "E,s0,s0,-o",
+    "E,s0,self,-",
+    "T,s0,-",
+    "L,s0,-",
+    "Q,0,-",
+    "Q,0,rep,-",
+    "Q,0,out,1,s0,-",
+    "Q,0,in,1,-,s0",
+    "Q,0,accept,1,-",
+    "B,u0,-",
+    "A,s0,-",
+    "N,-",
+    "-",
+];
+
+/// Document 02, No. 3: "`D,k,self,-`, where `-` is the empty set, allowed in D
+/// rows only".
+#[test]
+fn rows_without_rights() {
+    let good = ["D,0,s0,-", "D,0,s1,-", "D,31,self,-", "D,0,s0,- D,0,s1,- D,0,self,- D,1,self,-"];
+    for rows in good {
+        assert_eq!(net(&format!("N,2 {rows}")), "accepted,0 U,s0,0,0,0 U,s1,0,0,0", "{rows}");
+    }
+    for row in MALFORMED_RIGHTS {
+        assert_eq!(text_listing(&format!("N,1\n{row}\n")), "refused,1,2", "{row:?}");
+        assert_eq!(text_listing(&format!("N,1\n.\n{row}\n")), "refused,1,1", "{row:?}");
+    }
+}
+
+/// A row with `-` counts as the pair's row, and `self` is a t of its own.
+#[test]
+fn repeats_of_rows_without_rights() {
+    for t in ["s0", "s1", "self"] {
+        let others = "D,0,s2,- D,1,s0,- D,1,s1,- D,1,self,-";
+        for (first, second) in
+            [("-", "-"), ("-", "o"), ("-", "oirea"), ("o", "-"), ("oirea", "-"), ("o", "i")]
+        {
+            let rows = format!("N,3 D,0,{t},{first} {others} D,0,{t},{second}");
+            assert_eq!(net(&rows), "refused,3,7", "{rows}");
+            let rows = format!("N,3 D,0,{t},{first} D,0,{t},{second}");
+            assert_eq!(net(&rows), "refused,3,3", "{rows}");
+        }
+    }
+    let all = "D,0,s0,- D,0,self,- D,0,s1,o D,1,self,o D,1,s0,o D,1,s1,-";
+    assert!(net(&format!("N,2 {all}")).starts_with("accepted,0"));
+}
+
+/// 1, 2, 3, 4 in this order beside `-`.
+#[test]
+fn order_beside_no_rights() {
+    assert_eq!(net("N,2 D,32,s1,-"), "refused,2,2");
+    assert_eq!(net("N,2 D,32,self,-"), "refused,2,2");
+    assert_eq!(net("N,2 D,0,s32,-"), "refused,2,2");
+    assert_eq!(net("N,2 D,32,s1,--"), "refused,1,2");
+    assert_eq!(net("N,2 D,0,s2,-"), "refused,4,2");
+    assert_eq!(net("N,2 D,0,s31,-"), "refused,4,2");
+    assert_eq!(net("N,2 D,0,s2,-o"), "refused,1,2");
+    assert_eq!(net("N,2 D,0,s1,- D,32,s1,-"), "refused,2,3");
+    assert_eq!(net("N,2 T,s0,s0 D,0,s2,-"), "refused,3,3");
+    assert_eq!(net("N,2 T,s0,s0 D,32,s1,-"), "refused,2,3");
+    assert_eq!(net("D,0,s0,-"), "refused,3,1");
+    assert_eq!(listing("N,2", "D,0,s2,-"), "refused,3,1");
+    assert_eq!(listing("N,2", "D,32,s1,-"), "refused,2,1");
+    let brought =
+        [("bring Q,0,nil D,0,self,- .", "refused,3,2"), ("bring D,0,s0,-- .", "refused,1,1")];
+    expect("N,1", "", &brought);
+}
+
 #[test]
 fn limits_come_before_order() {
     let over = [

@@ -19,7 +19,17 @@ pub struct Friendly<'a> {
 
 /// Lines numbered from 0 that often pass the door at l under sandbox d.
 pub fn friendly(rng: &mut Rng, state: &State, wildcards: usize, l: Site, d: usize) -> Vec<Line> {
-    let allowed = state.net.sandboxes[d].at(l);
+    acting(rng, state, wildcards, l, &state.net.sandboxes[d].at(l))
+}
+
+/// Lines numbered from 0 of an arrival at l that uses rights within `allowed`.
+pub fn acting(
+    rng: &mut Rng,
+    state: &State,
+    wildcards: usize,
+    l: Site,
+    allowed: &Policy,
+) -> Vec<Line> {
     let mut maker = Friendly { rng, state, wildcards, lines: vec![] };
     if maker.rng.chance(25) {
         maker.lines.push(Line::Rep { next: 1 });
@@ -27,12 +37,12 @@ pub fn friendly(rng: &mut Rng, state: &State, wildcards: usize, l: Site, d: usiz
     if maker.rng.chance(25) {
         let at = maker.lines.len();
         maker.lines.push(Line::Nil);
-        maker.chain(l, &allowed, 2, 0);
+        maker.chain(l, allowed, 2, 0);
         let second = maker.lines.len() as u8;
         maker.lines[at] = Line::Par { next: at as u8 + 1, second };
     }
     let length = maker.rng.between(1, 4);
-    maker.chain(l, &allowed, length, 0);
+    maker.chain(l, allowed, length, 0);
     maker.lines
 }
 

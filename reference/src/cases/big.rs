@@ -2,7 +2,7 @@
 
 use super::damage::harm_rows;
 use super::listings::assemble;
-use super::nets::{accepted, close, some_rights, Style, LISTING};
+use super::nets::{accepted, close, own_row, some_rights, OwnRows, Style, LISTING};
 use super::process::{Maker, PLAIN};
 use super::rng::Rng;
 use super::text::{bytes, estimate_rows, line_row, net_rows, tuple_row, Rows};
@@ -121,7 +121,7 @@ fn full_rows(rng: &mut Rng) -> (Rows, Rows) {
     for _ in 0..*rng.pick(&[0, 5, 500]) {
         net.home[rng.below(SITES)][rng.below(SITES)] = some_rights(rng);
     }
-    net.sandboxes = [Sandbox { towards: [ALL_RIGHTS; SITES], own: ALL_RIGHTS }; SANDBOXES];
+    net.sandboxes = [Sandbox { towards: [ALL_RIGHTS; SITES], own: Some(ALL_RIGHTS) }; SANDBOXES];
     for at in 0..MAX_TUPLES {
         let site = |low: usize| Site(((at >> low) % SITES) as u8);
         net.tuples.push(Tuple {
@@ -145,7 +145,7 @@ fn full_rows(rng: &mut Rng) -> (Rows, Rows) {
 
 /// A net of many lines whose variables may be any site: much to be judged,
 /// whether the rules hold or not.
-pub fn wide(rng: &mut Rng, wildcards: usize) -> Vec<u8> {
+pub fn wide(rng: &mut Rng, wildcards: usize, own_rows: OwnRows) -> Vec<u8> {
     let mut net = Net::empty();
     net.sites = SITES as u8;
     more_tuples(rng, &mut net.tuples, net.sites, MAX_TUPLES);
@@ -163,7 +163,10 @@ pub fn wide(rng: &mut Rng, wildcards: usize) -> Vec<u8> {
     maker.lines.into_iter().for_each(|line| net.lines.push(line));
     for sandbox in &mut net.sandboxes {
         sandbox.towards = [some_rights(rng); SITES];
-        sandbox.own = some_rights(rng);
+        sandbox.own = match own_rows {
+            OwnRows::Fitted => Some(some_rights(rng)),
+            OwnRows::Drawn => own_row(rng),
+        };
     }
     let mut estimate = Estimate::empty();
     estimate.binds = [below(n); VARS];

@@ -1,6 +1,7 @@
 //! The cases of document 02, No. 8, written by hand: a warehouse takes in a
 //! carrier's agent for a day and sends it away again, over a season.
 
+use super::answered::Script;
 use super::scripts::chain;
 use super::text::{arrival_rows, bytes};
 
@@ -17,25 +18,6 @@ const AGENT: &str = "bring\nQ,0,read,1,s1,!u0,_\nQ,1,out,2,s2,u0\nQ,2,nil\n.";
 const TAKER: &str = "bring\nQ,0,in,1,s1,!u0,_\nQ,1,nil\n.";
 const STAYER: &str = "bring\nQ,0,rep,1\nQ,1,read,2,s1,!u0,_\nQ,2,nil\n.";
 const NIL: &str = "bring\nQ,0,nil\n.";
-
-/// Net, estimate, and commands with the row that each prints.
-struct Script {
-    begin: &'static str,
-    commands: Vec<(String, &'static str)>,
-}
-
-impl Script {
-    fn new(begin: &'static str, commands: &[(&str, &'static str)]) -> Script {
-        let owned = |&(command, row): &(&str, &'static str)| (command.to_string(), row);
-        Script { begin, commands: commands.iter().map(owned).collect() }
-    }
-
-    fn text(&self) -> String {
-        let rows: String =
-            self.commands.iter().map(|(command, _)| format!("{command}\n")).collect();
-        format!("{}{rows}", self.begin)
-    }
-}
 
 /// The agent may not be sent away before it has run to its end. The next one
 /// gets its number, and the door judges its lines.
@@ -269,27 +251,14 @@ pub fn scripts() -> Vec<String> {
 
 #[cfg(test)]
 mod tests {
+    use super::super::answered::{hold_to_answers, printed};
     use super::*;
     use crate::flow::{check, Answer};
     use crate::listing::part;
-    use crate::script;
-
-    /// The rows that a script prints.
-    fn printed(text: &str) -> Vec<String> {
-        let out = String::from_utf8(script::run(text.as_bytes())).unwrap();
-        out.lines().map(str::to_string).collect()
-    }
 
     #[test]
     fn every_command_prints_its_row() {
-        for (at, script) in all().iter().enumerate() {
-            let rows = printed(&script.text());
-            assert_eq!(rows[0], "started");
-            for ((command, row), printed) in script.commands.iter().zip(&rows[1..]) {
-                assert_eq!(printed, row, "script {at}, {command}");
-            }
-            assert!(rows[script.commands.len() + 1].starts_with("state,"), "script {at}");
-        }
+        hold_to_answers(&all());
     }
 
     /// The warehouse is accepted, and nothing is reported.

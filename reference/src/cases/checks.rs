@@ -6,9 +6,11 @@
 use super::damage::drop_row;
 use super::letters::by_number;
 use super::listings;
-use super::nets::{accepted, widen, Style, LISTING};
+use super::nets::{accepted, widen, OwnRows, Style, LISTING};
+use super::plain::{self, Plain};
 use super::process::{template, BUSY};
 use super::rng::Rng;
+use super::sandboxes::peopled;
 use super::scripts;
 use super::seasons::add_accepting_thread;
 use super::text::{bytes, estimate_rows, net_rows};
@@ -20,162 +22,19 @@ use crate::{listing, script};
 
 pub const NETS: u64 = 600;
 
-/// The style for a seed: with no wildcards, some, or many.
+/// The style for a seed: with no wildcards, some, or many, and with rows for
+/// `self` that are fitted or drawn.
 pub fn varied(seed: u64, style: Style) -> Style {
-    Style { wildcards: [0, 30, 70][(seed / 3 % 3) as usize], ..style }
+    let own_rows = if seed / 9 % 2 == 0 { OwnRows::Fitted } else { OwnRows::Drawn };
+    Style { wildcards: [0, 30, 70][(seed / 3 % 3) as usize], own_rows, ..style }
 }
 
-fn sites(mask: Mask) -> Vec<Site> {
-    (0..SITES as u8).map(Site).filter(|s| mask & s.bit() != 0).collect()
-}
-
-/// The place set of a line, found by going up to its root.
-fn place(net: &Net, estimate: &Estimate, q: usize) -> Mask {
-    if let Some(root) = net.roots.iter().find(|root| usize::from(root.line) == q) {
-        return root.site.bit();
+/// A net of a style; where rows for `self` are drawn, with senders and houses.
+pub(super) fn net_of(rng: &mut Rng, style: &Style) -> (Net, Estimate) {
+    match style.own_rows {
+        OwnRows::Fitted => accepted(rng, style),
+        OwnRows::Drawn => peopled(rng, style),
     }
-    let is_parent = |p: &usize| net.lines[*p].children().contains(&Some(q as u8));
-    let parent = (0..q).find(is_parent).expect("every line is named");
-    let above = place(net, estimate, parent);
-    match net.lines[parent] {
-        Line::Eval { target, body, .. } if usize::from(body) == q => {
-            flow::reach(target, above, estimate)
-        }
-        _ => above,
-    }
-}
-
-/// Tries every choice of sites for the fields from `at` on.
-fn all_choices(
-    fields: &Terms,
-    at: usize,
-    row: &mut Tuple,
-    here: Mask,
-    estimate: &Estimate,
-) -> bool {
-    if at == usize::from(fields.len) {
-        return estimate.tuples.contains(row);
-    }
-    sites(flow::reach(fields.items[at], here, estimate)).into_iter().all(|site| {
-        row.fields[at] = site;
-        for field in &mut row.fields[at + 1..] {
-            *field = Site(0);
-        }
-        all_choices(fields, at + 1, row, here, estimate)
-    })
-}
-
-fn plain_out(target: Term, fields: &Terms, here: Mask, estimate: &Estimate) -> bool {
-    // A field whose reach is empty leaves no choice, wherever it stands.
-    let empty = |term: &Term| flow::reach(*term, here, estimate) == 0;
-    fields.slice().iter().any(empty)
-        || sites(flow::reach(target, here, estimate)).into_iter().all(|site| {
-            let mut row = Tuple { site, len: fields.len, ..Tuple::BLANK };
-            all_choices(fields, 0, &mut row, here, estimate)
-        })
-}
-
-fn plain_template(target: Term, fields: &Terms, here: Mask, estimate: &Estimate) -> bool {
-    estimate.tuples.iter().all(|row| {
-        let at_target = sites(flow::reach(target, here, estimate)).contains(&row.site);
-        let pairs = || fields.slice().iter().zip(row.fields());
-        let applies = at_target
-            && row.len == fields.len
-            && pairs().all(|(term, field)| match term {
-                Term::Bind(_) | Term::Wildcard => true,
-                _ => sites(flow::reach(*term, here, estimate)).contains(field),
-            });
-        !applies
-            || pairs().all(|(term, field)| match term {
-                Term::Bind(u) => sites(estimate.binds[u.index()]).contains(field),
-                _ => true,
-            })
-    })
-}
-
-/// d evaluated at l, towards t.
-fn evaluated(net: &Net, sandbox: u8, l: Site, t: usize) -> u8 {
-    let d = &net.sandboxes[usize::from(sandbox)];
-    if t == l.index() {
-        d.towards[t] & d.own
-    } else {
-        d.towards[t]
-    }
-}
-
-fn plain_rule(net: &Net, estimate: &Estimate, q: usize) -> bool {
-    let here = place(net, estimate, q);
-    match &net.lines[q] {
-        Line::Out { target, fields, .. } => plain_out(*target, fields, here, estimate),
-        Line::In { target, fields, .. } | Line::Read { target, fields, .. } => {
-            plain_template(*target, fields, here, estimate)
-        }
-        Line::Eval { target, sandbox, .. } => {
-            let reach = sites(flow::reach(*target, here, estimate));
-            reach.iter().all(|l| {
-                reach.iter().all(|other| {
-                    (0..SITES).all(|t| {
-                        let held = evaluated(net, *sandbox, *other, t);
-                        held & !estimate.rights[l.index()][t] == 0
-                    })
-                })
-            })
-        }
-        _ => true,
-    }
-}
-
-/// The rights on t in the use map of line q, by recursion.
-fn plain_use(net: &Net, estimate: &Estimate, q: usize, t: usize) -> u8 {
-    let here = place(net, estimate, q);
-    let below = |line: u8| plain_use(net, estimate, usize::from(line), t);
-    let on = |target: Term, right: u8| {
-        let reach = sites(flow::reach(target, here, estimate));
-        if reach.iter().any(|s| s.index() == t) {
-            right
-        } else {
-            0
-        }
-    };
-    match net.lines[q] {
-        Line::Nil => 0,
-        Line::Par { next, second } => below(next) | below(second),
-        Line::Rep { next } => below(next),
-        Line::Out { next, target, .. } => on(target, OUT) | below(next),
-        Line::In { next, target, .. } => on(target, IN) | below(next),
-        Line::Read { next, target, .. } => on(target, READ) | below(next),
-        Line::Eval { next, target, .. } => on(target, EVAL) | below(next),
-        Line::Accept { next, sandbox } => {
-            let taken = sites(here).into_iter().map(|l| evaluated(net, sandbox, l, t));
-            on(Term::Own, ACCEPT) | taken.fold(0, |all, rights| all | rights) | below(next)
-        }
-    }
-}
-
-fn plain_report(net: &Net, estimate: &Estimate) -> Vec<u8> {
-    let mut report = vec![0; SITES * SITES];
-    let all = |s: usize| (0..SITES).map(move |t| (s * SITES + t, t));
-    for root in net.roots.iter() {
-        for (byte, t) in all(root.site.index()) {
-            let uses = plain_use(net, estimate, usize::from(root.line), t);
-            report[byte] |= uses & !net.home[root.site.index()][t];
-        }
-    }
-    for (q, line) in net.lines.iter().enumerate() {
-        let Line::Eval { target, body, sandbox, .. } = *line else { continue };
-        let reach = sites(flow::reach(target, place(net, estimate, q), estimate));
-        for subject in &reach {
-            for (byte, t) in all(subject.index()) {
-                let held = reach.iter().map(|l| evaluated(net, sandbox, *l, t));
-                let sure = held.fold(u8::MAX, |all, rights| all & rights);
-                report[byte] |= plain_use(net, estimate, usize::from(body), t) & !sure;
-            }
-        }
-    }
-    for s in 0..usize::from(net.sites) {
-        all(s).for_each(|(byte, t)| report[byte] |= estimate.rights[s][t] & !net.home[s][t]);
-    }
-    report
 }
 
 #[test]
@@ -184,7 +43,7 @@ fn rules_and_report_agree_with_the_plain_ones() {
     for seed in 0..NETS {
         let rng = &mut Rng::new(seed);
         let style = varied(seed, Style { max_lines: 30, ..LISTING });
-        let (net, mut estimate) = accepted(rng, &style);
+        let (net, mut estimate) = net_of(rng, &style);
         if net.lines.len() > 80 {
             continue;
         }
@@ -195,17 +54,18 @@ fn rules_and_report_agree_with_the_plain_ones() {
             _ => {}
         }
         let places = flow::net_places(&net, &estimate);
-        let tuple = net.tuples.iter().position(|t| !estimate.tuples.contains(t));
-        let line = (0..net.lines.len()).find(|&q| !plain_rule(&net, &estimate, q));
-        let expected = tuple.map(Broken::Tuple).or(line.map(Broken::Line));
+        let plain = Plain::of(&net, &estimate);
+        let expected = plain.first_broken();
         assert_eq!(flow::first_broken(&net, &estimate, &places), expected, "seed {seed}");
         if expected.is_none() {
             whole += 1;
             let report = flow::report(&net, &estimate, &places);
-            assert_eq!(report[..], plain_report(&net, &estimate)[..], "seed {seed}");
+            assert_eq!(report[..], plain.report()[..], "seed {seed}");
         } else {
             broken += 1;
-            broken_wildcards += usize::from(line.is_some_and(|q| has_wildcard(&net.lines[q])));
+        }
+        if let Some(Broken::Line(q)) = expected {
+            broken_wildcards += usize::from(has_wildcard(&net.lines[q]));
         }
     }
     let counts = (broken, whole, broken_wildcards);
@@ -248,26 +108,6 @@ fn letters_are_those_of_the_bits() {
     }
 }
 
-/// The door by its definition, for the arrival in lines r to `end`.
-fn plain_door(state: &State, r: usize, end: usize, l: Site, d: u8) -> bool {
-    let estimate = &state.estimate;
-    let mut net = state.net.clone();
-    net.roots = List::filled(Root { site: l, line: r as u8 });
-    net.roots.push(Root { site: l, line: r as u8 });
-    let adds_nothing = |q: usize| {
-        let Line::Eval { target, body, sandbox, .. } = net.lines[q] else { return true };
-        let reach = sites(flow::reach(target, place(&net, estimate, q), estimate));
-        reach.iter().all(|other| {
-            (0..SITES).all(|t| {
-                let uses = plain_use(&net, estimate, usize::from(body), t);
-                uses & !evaluated(&net, sandbox, *other, t) == 0
-            })
-        })
-    };
-    (r..end).all(|q| plain_rule(&net, estimate, q) && adds_nothing(q))
-        && (0..SITES).all(|t| plain_use(&net, estimate, r, t) & !evaluated(&net, d, l, t) == 0)
-}
-
 /// The state begun from the texts of a net and an estimate.
 pub(super) fn begun(net: &Net, estimate: &Estimate) -> State {
     State::start(&bytes(&net_rows(net)), &bytes(&estimate_rows(estimate))).unwrap()
@@ -280,19 +120,16 @@ fn door_agrees_with_the_plain_one() {
     for seed in 0..NETS / 6 {
         let rng = &mut Rng::new(seed);
         let style = varied(seed, style);
-        let (net, estimate) = accepted(rng, &style);
+        let (net, estimate) = net_of(rng, &style);
         let mut state = begun(&net, &estimate);
         for _ in 0..4 {
             scripts::bring_friendly(rng, &mut state, style.wildcards);
         }
-        let mut ends: Vec<usize> =
-            state.arrivals.iter().skip(1).map(|arrival| usize::from(arrival.root)).collect();
-        ends.push(state.net.lines.len());
-        for (arrival, end) in state.arrivals.iter().zip(ends) {
+        for (arrival, end) in state.arrivals.iter().zip(plain::ends(&state)) {
             let r = usize::from(arrival.root);
             for (l, d) in (0..state.net.sites.min(6)).flat_map(|l| (0..4).map(move |d| (l, d))) {
                 let door = state.door(r, usize::from(l), usize::from(d));
-                let expected = plain_door(&state, r, end, Site(l), d);
+                let expected = plain::door(&state, ALL_RIGHTS, r, end, Site(l), d);
                 assert_eq!(door, Ok(expected), "seed {seed}, door {r} {l} {d}");
                 *if expected { &mut passed } else { &mut closed } += 1;
             }
@@ -304,7 +141,7 @@ fn door_agrees_with_the_plain_one() {
 #[test]
 fn texts_are_read_back() {
     for seed in 0..NETS {
-        let (net, estimate) = accepted(&mut Rng::new(seed), &varied(seed, LISTING));
+        let (net, estimate) = net_of(&mut Rng::new(seed), &varied(seed, LISTING));
         let (mut net_read, mut estimate_read) = (Net::empty(), Estimate::empty());
         let texts = (bytes(&net_rows(&net)), bytes(&estimate_rows(&estimate)));
         let read = flow::read_both(&texts.0, &texts.1, &mut net_read, &mut estimate_read);
@@ -326,11 +163,14 @@ fn state_is_within(state: &State) -> bool {
 }
 
 /// What was seen in runs: steps performed, those of them that the policies
-/// forbid, withdrawals, and steps on a line behind one that had come free.
+/// forbid, the same two of threads under a sandbox on the site at which they
+/// are, withdrawals, and steps on a line behind one that had come free.
 #[derive(Default, Debug)]
 struct Counts {
     performed: usize,
     forbidden: usize,
+    at_own_site: usize,
+    forbidden_there: usize,
     withdrawn: usize,
     behind: usize,
 }
@@ -340,7 +180,7 @@ struct Counts {
 fn check_run(seed: u64, counts: &mut Counts) {
     let rng = &mut Rng::new(seed);
     let style = varied(seed, Style { weights: BUSY, sandbox_rows: 6, widened: 80, ..LISTING });
-    let (mut net, mut estimate) = accepted(rng, &style);
+    let (mut net, mut estimate) = net_of(rng, &style);
     let withdraws = seed % 2 == 1;
     if withdraws {
         add_accepting_thread(rng, &mut net, &mut estimate);
@@ -360,9 +200,12 @@ fn check_run(seed: u64, counts: &mut Counts) {
         let Some((k, m, r)) = scripts::performing_step(rng, &state, false) else { continue };
         let permitted = state.judge(true, k, m, r).is_ok();
         counts.behind += usize::from(usize::from(state.threads[k].line) >= given_again);
+        let sandboxed = state.threads[k].policy != net.home[state.threads[k].site.index()];
         if let Ok(Done::Acted { site, target, right }) = state.step(k, m, r) {
             counts.performed += 1;
             counts.forbidden += usize::from(!permitted);
+            counts.at_own_site += usize::from(sandboxed && site == target);
+            counts.forbidden_there += usize::from(sandboxed && site == target && !permitted);
             let listed = report[site.index() * SITES + target.index()] & right != 0;
             assert!(permitted || listed, "seed {seed}, turn {turn}");
         }
@@ -376,8 +219,9 @@ fn check_run(seed: u64, counts: &mut Counts) {
 fn forbidden_steps_are_reported() {
     let mut counts = Counts::default();
     (0..NETS).for_each(|seed| check_run(seed, &mut counts));
-    let Counts { performed, forbidden, withdrawn, behind } = counts;
+    let Counts { performed, forbidden, withdrawn, behind, .. } = counts;
     assert!(performed > 2000 && forbidden > 200 && withdrawn > 500 && behind > 500, "{counts:?}");
+    assert!(counts.at_own_site > 1000 && counts.forbidden_there > 200, "{counts:?}");
 }
 
 /// One past the greatest number of a refusal.

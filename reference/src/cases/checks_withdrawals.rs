@@ -1,8 +1,8 @@
 //! Checks of withdrawals (document 02, No. 8) over generated states: against a
 //! plain restatement, and behind a bring.
 
-use super::checks::{begun, varied, NETS};
-use super::nets::{accepted, Style};
+use super::checks::{begun, net_of, varied, NETS};
+use super::nets::Style;
 use super::rng::Rng;
 use super::scripts::{self, bring_friendly, performing_step, STYLE};
 use super::seasons::{add_accepting_thread, SMALL};
@@ -43,7 +43,7 @@ fn plain_withdraw(state: &State) -> (Result<u8, Refusal>, State) {
 
 /// A state begun from a generated net with a thread that takes arrivals in.
 fn begun_accepting(rng: &mut Rng, style: &Style) -> State {
-    let (mut net, mut estimate) = accepted(rng, style);
+    let (mut net, mut estimate) = net_of(rng, style);
     add_accepting_thread(rng, &mut net, &mut estimate);
     begun(&net, &estimate)
 }

@@ -1,5 +1,6 @@
 //! What cases cover: a count for each thing that is seen to happen in them.
 
+use super::cover_sandboxes::{self as sandboxes, Others};
 use super::cover_wildcards as wildcards;
 use super::cover_withdrawals::History;
 use super::required::{required, Wanted};
@@ -112,6 +113,10 @@ impl Watcher {
         names.into_iter().for_each(|name| self.note(format!("wildcard: {name}")));
     }
 
+    fn sandboxes(&mut self, names: Vec<String>) {
+        names.into_iter().for_each(|name| self.note(format!("sandbox: {name}")));
+    }
+
     fn listing(&mut self, case: &[u8]) {
         if case.len().abs_diff(listing::MAX_INPUT) <= 1 {
             self.note(format!("input of {} bytes", case.len()));
@@ -129,6 +134,8 @@ impl Watcher {
         }
         self.limits(&net, &estimate);
         self.wildcards(wildcards::taken(&net.lines));
+        self.sandboxes(sandboxes::taken(net_text, &net, &estimate));
+        self.sandboxes(sandboxes::checked(&net, &estimate));
         self.rules(&net, &estimate);
     }
 
@@ -204,6 +211,7 @@ impl Watcher {
             return;
         };
         self.wildcards(wildcards::refused(part, named, number));
+        self.sandboxes(sandboxes::refused(part, &rows[..row - 1], named, number));
         let Some(&letter) = named.first().filter(|letter| b"NRDTLQBAE".contains(letter)) else {
             return;
         };
@@ -242,12 +250,15 @@ impl Watcher {
             Err(refusal) => return self.note(format!("start: refused {}", refusal.number)),
         };
         self.note("start: taken");
-        let mut history = History::default();
+        let (mut history, mut others) = (History::default(), Others::of(&state));
         while let Some(command) = script::next_command(&mut commands) {
             let before = state.clone();
             let answer = script::obey(&mut state, &command);
             let answer = String::from_utf8_lossy(&answer);
-            self.command(&before, &state, &command, answer.trim_end(), &mut history);
+            let fields: Vec<&str> = answer.trim_end().split(',').collect();
+            self.command(&before, &state, &command, &fields, &mut history);
+            let call = called(&command);
+            self.sandboxes(others.follow(&before, &state, &command, call, &fields));
         }
     }
 
@@ -256,31 +267,22 @@ impl Watcher {
         before: &State,
         after: &State,
         command: &Command,
-        answer: &str,
+        fields: &[&str],
         history: &mut History,
     ) {
-        let fields: Vec<&str> = answer.split(',').collect();
-        let withdrawals = history.follow(before, after, command, &fields);
+        let withdrawals = history.follow(before, after, command, fields);
         withdrawals.into_iter().for_each(|name| self.note(format!("withdraw: {name}")));
-        let (name, numbers) = match command {
-            Command::Bring(_) => ("bring", None),
-            Command::Row(b"ready") => ("ready", None),
-            Command::Row(row) => {
-                let (name, numbers) = script::name_and_numbers(row);
-                (std::str::from_utf8(name).unwrap_or_default(), numbers)
-            }
-            Command::Unended => ("", None),
-        };
-        match (name, numbers, &fields[..]) {
+        let (name, numbers) = called(command);
+        match (name, numbers, fields) {
             (_, _, ["bad command"]) => self.note("bad command"),
-            ("bring", ..) => self.bring(before, after, command, &fields),
-            ("door", Some(numbers), _) => self.door(before, numbers, &fields),
+            ("bring", ..) => self.bring(before, after, command, fields),
+            ("door", Some(numbers), _) => self.door(before, numbers, fields),
             ("ready", _, [_, place]) => {
                 self.note(if *place == "none" { "ready: none" } else { "ready: a place" });
                 self.wildcards(wildcards::ready(before, place));
             }
             (_, Some([k, m, r]), _) => {
-                self.step(name, before, [k, m, r], &fields);
+                self.step(name, before, [k, m, r], fields);
                 let accepts = fields[0] == "performed" && fields[3] == "a";
                 if accepts && history.take_in(r, before.threads[k].site) {
                     self.note("accept: an arrival taken in again");
@@ -301,6 +303,7 @@ impl Watcher {
         let row = named.and_then(|at| text.split(|&b| b == b'\n').nth(at));
         if let (Some(row), Ok(number)) = (row, number.parse()) {
             self.wildcards(wildcards::refused("bring", row, number));
+            self.sandboxes(sandboxes::refused("bring", &[], row, number));
         }
     }
 
@@ -342,6 +345,19 @@ impl Watcher {
         if after.tuples.len() == MAX_TUPLES && before.tuples.len() < MAX_TUPLES {
             self.note("256 tuples");
         }
+    }
+}
+
+/// The name of a command, and its numbers where it has three.
+fn called<'a>(command: &Command<'a>) -> (&'a str, Option<[usize; 3]>) {
+    match *command {
+        Command::Bring(_) => ("bring", None),
+        Command::Row(b"ready") => ("ready", None),
+        Command::Row(row) => {
+            let (name, numbers) = script::name_and_numbers(row);
+            (std::str::from_utf8(name).unwrap_or_default(), numbers)
+        }
+        Command::Unended => ("", None),
     }
 }
 

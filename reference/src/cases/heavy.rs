@@ -1,5 +1,5 @@
-//! Named inputs for timing: the large net, hostile nets, long reports, and
-//! nets whose steps come back to the same state.
+//! Named inputs for timing: the smallest and the large net, hostile nets, long
+//! reports, many sandboxes, and nets whose steps come back to the same state.
 
 use super::rng::Rng;
 use super::Kind;
@@ -187,6 +187,58 @@ pub fn mixed_sets() -> Vec<Heavy> {
     (1..=TURNS).map(draw).collect()
 }
 
+/// A D row of every sandbox towards every site and `self`, all with the same
+/// rights, and nothing that names a sandbox.
+fn sandbox_rows(name: &'static str, rights: &str) -> Heavy {
+    let of_one = |k: usize| -> String {
+        let towards: String = (0..SITES).map(|t| format!("D,{k},s{t},{rights}\n")).collect();
+        format!("{towards}D,{k},self,{rights}\n")
+    };
+    let rows: String = (0..SANDBOXES).map(of_one).collect();
+    Heavy::new(name, format!("N,32\n{rows}"), String::new())
+}
+
+/// The rows with all letters, and those without rights.
+fn all_sandboxes() -> [Heavy; 2] {
+    [
+        sandbox_rows("1,056 D rows, all rights", "oirea"),
+        sandbox_rows("1,056 D rows, no rights", "-"),
+    ]
+}
+
+/// Every sandbox has all rights towards every site, and for `self` the row
+/// given, or none; 84 evals over a full variable take them in turn. The body of
+/// each reads where it is.
+fn wide_evals(name: &'static str, own: &str) -> Heavy {
+    let mut rows = pairs(SANDBOXES, SITES, |k, t| format!("D,{k},s{t},oirea\n"));
+    if !own.is_empty() {
+        rows += &(0..SANDBOXES).map(|k| format!("D,{k},self,{own}\n")).collect::<String>();
+    }
+    let mut lines = vec![BINDER.to_string()];
+    for i in 0..84 {
+        let at = 1 + 3 * i;
+        lines.push(format!("eval,{},u0,{},{}", at + 3, at + 1, i % SANDBOXES));
+        lines.extend([format!("read,{},self,self", at + 2), "nil".to_string()]);
+    }
+    lines.push("nil".to_string());
+    let rights = pairs(SITES, SITES, |s, t| format!("E,s{s},s{t},oirea\n"));
+    let net = format!("N,32\n{rows}L,s30,0\n{}", numbered(&lines));
+    Heavy::new(name, net, binds(&[SITES; 4]) + &rights)
+}
+
+/// The same evals with no row for `self`, and with one without rights.
+fn silent_sandboxes() -> [Heavy; 2] {
+    [
+        wide_evals("84 evals, 32 sandboxes without self row", ""),
+        wide_evals("84 evals, 32 sandboxes with self row -", "-"),
+    ]
+}
+
+/// A net of one row: what a call costs before there is anything to do.
+pub fn smallest() -> Heavy {
+    Heavy::new("N,1 alone", "N,1\n".to_string(), String::new())
+}
+
 /// The input of a listing seed.
 fn seeded(name: &'static str, seed: u64) -> Heavy {
     let case = Kind::Listing.case(seed);
@@ -234,6 +286,9 @@ pub fn checks() -> Vec<Heavy> {
         all_rights(),
     ];
     all.extend(reading());
+    all.push(smallest());
+    all.extend(all_sandboxes());
+    all.extend(silent_sandboxes());
     all
 }
 
@@ -550,6 +605,28 @@ mod tests {
             assert_eq!(check(&heavy.net, &less), Answer::Broken(Broken::Line(0)), "{row}");
             assert_eq!(check(&wildcards.net, &less), Answer::Accepted, "{row}");
         }
+    }
+
+    /// Every place of the table has a row; the bodies are sure of what they do
+    /// unless the row for `self` has no rights.
+    #[test]
+    fn sandboxes_are_as_named() {
+        let count = |heavy: &Heavy| {
+            heavy.net.split(|&b| b == b'\n').filter(|row| row.first() == Some(&b'D')).count()
+        };
+        let [letters, none] = all_sandboxes();
+        assert_eq!([count(&letters), count(&none)], [1056; 2]);
+        let [silent, closed] = silent_sandboxes();
+        assert_eq!([count(&silent), count(&closed)], [1024, 1056]);
+        let home = pairs(SITES, SITES, |s, t| format!("R,s{s},s{t},oirea\n"));
+        let at_home = |heavy: &Heavy| {
+            let net = String::from_utf8(heavy.net.clone()).unwrap();
+            let net = net.replace("N,32\n", &format!("N,32\n{home}")).into_bytes();
+            printed(&[&net[..], b".\n", &heavy.estimate[..]].concat())
+        };
+        assert!(at_home(&silent).is_empty());
+        assert_eq!(at_home(&closed), vec!["r"; SITES * SITES]);
+        assert_eq!(smallest().input(), b"N,1\n.\n");
     }
 
     /// Each step performed.

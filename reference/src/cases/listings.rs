@@ -2,23 +2,32 @@
 
 use super::big;
 use super::damage::{drop_row, harm_net, harm_rows};
-use super::nets::{accepted, Style, LISTING};
+use super::nets::{accepted, OwnRows, Style, LISTING};
 use super::process::TEMPLATES;
 use super::rng::Rng;
+use super::sandboxes;
 use super::shares::{make_halves, FEWEST_SITES};
 use super::text::{bytes, estimate_rows, net_rows, Rows};
 use super::wildcards::{add_taken_row, bind_spare, harm_wildcard, unbind};
 use crate::rows::{Estimate, Net};
 
-/// How many of a hundred seeds have wildcards.
+/// How many of a hundred seeds have wildcards, if they are not about the rows
+/// of sandboxes.
 const WILDCARD_SEEDS: usize = 12;
 
-/// One input. Whether it has wildcards is drawn last, so that every other
-/// seed keeps its text.
+/// How many of a hundred seeds are about the rows of sandboxes.
+const SANDBOX_SEEDS: usize = 12;
+
+/// One input. Whether it has wildcards is drawn behind all else, and whether it
+/// is about the rows of sandboxes behind that, so that every other seed keeps
+/// its text.
 pub fn case(rng: &mut Rng) -> Vec<u8> {
-    let text = plain(rng);
+    let mut text = plain(rng);
     if rng.chance(WILDCARD_SEEDS) {
-        return with_wildcards(rng);
+        text = with_wildcards(rng);
+    }
+    if rng.chance(SANDBOX_SEEDS) {
+        text = sandboxes::listing(rng);
     }
     text
 }
@@ -31,7 +40,7 @@ fn plain(rng: &mut Rng) -> Vec<u8> {
         3 => damaged_net(rng, &LISTING),
         4 => big::counts(rng, &LISTING),
         5 => big::sizes(rng),
-        _ => big::wide(rng, 0),
+        _ => big::wide(rng, 0, OwnRows::Fitted),
     }
 }
 
@@ -43,7 +52,7 @@ fn with_wildcards(rng: &mut Rng) -> Vec<u8> {
         2 => damaged_rows(rng, &style),
         3 => damaged_net(rng, &style),
         4 => big::counts(rng, &style),
-        _ => big::wide(rng, style.wildcards),
+        _ => big::wide(rng, style.wildcards, OwnRows::Fitted),
     }
 }
 
@@ -95,7 +104,10 @@ fn break_rule(rng: &mut Rng, style: &Style, net: &mut Net, estimate: &mut Estima
 
 /// The text of a net and an estimate; some groups in another order.
 fn written(rng: &mut Rng, net: &Net, estimate: &Estimate) -> Vec<u8> {
-    let (mut net, mut estimate) = (net_rows(net), estimate_rows(estimate));
+    arranged(rng, net_rows(net), estimate_rows(estimate))
+}
+
+pub fn arranged(rng: &mut Rng, mut net: Rows, mut estimate: Rows) -> Vec<u8> {
     if rng.chance(40) {
         shuffle_groups(rng, &mut net);
         shuffle_groups(rng, &mut estimate);

@@ -1,27 +1,35 @@
 //! Seeded cases: inputs for `lotcheck` and `lotrun`.
 
+mod answered;
 mod arrivals;
 mod big;
 mod carriers;
 #[cfg(test)]
 mod checks;
 #[cfg(test)]
+mod checks_sandboxes;
+#[cfg(test)]
 mod checks_wildcards;
 #[cfg(test)]
 mod checks_withdrawals;
 pub mod cover;
+mod cover_sandboxes;
 mod cover_wildcards;
 mod cover_withdrawals;
 mod damage;
 pub mod frames;
 pub mod heavy;
+mod inspectors;
 mod ledgers;
 mod letters;
 mod listings;
 mod nets;
+#[cfg(test)]
+mod plain;
 mod process;
 mod required;
 mod rng;
+mod sandboxes;
 mod scripts;
 mod seasons;
 mod shares;

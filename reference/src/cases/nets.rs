@@ -19,6 +19,17 @@ pub struct Style {
     pub lengths: [usize; MAX_FIELDS],
     /// Chance that a template's field is a wildcard.
     pub wildcards: usize,
+    pub own_rows: OwnRows,
+}
+
+/// How sandboxes come by their rows for `self`.
+#[derive(Clone, Copy, PartialEq)]
+pub enum OwnRows {
+    /// Some have one by chance, and some get one because bodies use rights.
+    Fitted,
+    /// Each has none, one without rights or one with rights, of which only the
+    /// last is fitted to what bodies use.
+    Drawn,
 }
 
 const LENGTHS: [usize; MAX_FIELDS] = [50, 30, 12, 8];
@@ -32,6 +43,7 @@ pub const LISTING: Style = Style {
     sandbox_rows: 2,
     lengths: LENGTHS,
     wildcards: 0,
+    own_rows: OwnRows::Fitted,
 };
 
 /// Attempts before a net with a small estimate is settled for.
@@ -51,7 +63,7 @@ pub fn accepted(rng: &mut Rng, style: &Style) -> (Net, Estimate) {
     for _ in 0..ATTEMPTS {
         let mut net = shape_net(rng, style);
         if rng.chance(75) {
-            fit_sandboxes(&mut net);
+            fit_sandboxes(&mut net, style.own_rows);
         }
         if rng.chance(25) {
             loosen(rng, &mut net);
@@ -89,6 +101,9 @@ fn shape_net(rng: &mut Rng, style: &Style) -> Net {
     let sandboxes = if rng.chance(5) { SANDBOXES } else { rng.between(1, 4) };
     for _ in 0..rng.below(style.sandbox_rows * sandboxes + 1) {
         sandbox_row(rng, &mut net, n, sandboxes);
+    }
+    if style.own_rows == OwnRows::Drawn {
+        net.sandboxes[..sandboxes].iter_mut().for_each(|sandbox| sandbox.own = own_row(rng));
     }
     for _ in 0..rng.between(0, style.max_tuples) {
         let tuple = near(rng, &shapes, n);
@@ -159,9 +174,26 @@ fn sandbox_row(rng: &mut Rng, net: &mut Net, n: usize, sandboxes: usize) {
     let rights = some_rights(rng);
     let sandbox = &mut net.sandboxes[rng.below(sandboxes)];
     if rng.chance(25) {
-        sandbox.own |= rights;
+        add_own(sandbox, rights);
     } else {
         sandbox.towards[rng.below(n)] |= rights;
+    }
+}
+
+/// No row for `self`, one without rights, or one with rights.
+pub fn own_row(rng: &mut Rng) -> Option<u8> {
+    match rng.weighted(&[40, 25, 35]) {
+        0 => None,
+        1 => Some(NO_RIGHTS),
+        _ => Some(some_rights(rng)),
+    }
+}
+
+/// Adds rights, if there are any, to the row for `self`, and the row if there
+/// is none.
+pub fn add_own(sandbox: &mut Sandbox, rights: u8) {
+    if rights != NO_RIGHTS {
+        sandbox.own = Some(sandbox.own.unwrap_or(NO_RIGHTS) | rights);
     }
 }
 
@@ -170,12 +202,17 @@ pub fn some_rights(rng: &mut Rng) -> u8 {
     if rng.chance(50) {
         1 << rng.below(LETTERS.len())
     } else {
-        rng.between(1, 31) as u8
+        rng.between(1, usize::from(ALL_RIGHTS)) as u8
     }
 }
 
+/// Any set of rights, the empty one too.
+fn any_rights(rng: &mut Rng) -> u8 {
+    rng.between(usize::from(NO_RIGHTS), usize::from(ALL_RIGHTS)) as u8
+}
+
 /// Widens sandboxes until eval lines add nothing to the report.
-fn fit_sandboxes(net: &mut Net) {
+fn fit_sandboxes(net: &mut Net, own_rows: OwnRows) {
     for _ in 0..FIT_ROUNDS {
         let Some(estimate) = close(net, Estimate::empty()) else {
             return;
@@ -184,28 +221,35 @@ fn fit_sandboxes(net: &mut Net) {
         for (line, place) in net.lines.clone().iter().zip(places) {
             let (subjects, part) = flow::eval_part(line, place, net, &estimate);
             if let Line::Eval { sandbox, .. } = *line {
-                add_to_sandbox(&mut net.sandboxes[usize::from(sandbox)], subjects, &part);
+                let sandbox = &mut net.sandboxes[usize::from(sandbox)];
+                add_to_sandbox(sandbox, subjects, &part, own_rows);
             }
         }
     }
 }
 
-fn add_to_sandbox(sandbox: &mut Sandbox, subjects: Mask, part: &Policy) {
+fn add_to_sandbox(sandbox: &mut Sandbox, subjects: Mask, part: &Policy, own_rows: OwnRows) {
     join(&mut sandbox.towards, part);
+    if own_rows == OwnRows::Drawn && matches!(sandbox.own, None | Some(NO_RIGHTS)) {
+        return;
+    }
     for site in members(subjects) {
-        sandbox.own |= part[site.index()];
+        add_own(sandbox, part[site.index()]);
     }
 }
 
-/// Takes some rights out of sandboxes, so that bodies exceed them.
+/// Takes some rights out of sandboxes, so that bodies exceed them. A row for
+/// `self` that loses them all is left out; one that has none stays.
 fn loosen(rng: &mut Rng, net: &mut Net) {
     for sandbox in &mut net.sandboxes {
         if rng.chance(40) {
-            sandbox.own &= rng.below(32) as u8;
+            let kept = any_rights(rng);
+            let stays = |own: &u8| own & kept != NO_RIGHTS || *own == NO_RIGHTS;
+            sandbox.own = sandbox.own.filter(stays).map(|own| own & kept);
         }
         for rights in &mut sandbox.towards {
             if *rights != 0 && rng.chance(20) {
-                *rights &= rng.below(32) as u8;
+                *rights &= any_rights(rng);
             }
         }
     }
@@ -328,7 +372,7 @@ fn close_template(target: Term, fields: &Terms, place: Mask, estimate: &mut Esti
 
 /// Home policies that leave the report empty, or nearly so, and rights that
 /// nobody uses.
-fn fit_home(rng: &mut Rng, net: &mut Net, estimate: &Estimate) {
+pub fn fit_home(rng: &mut Rng, net: &mut Net, estimate: &Estimate) {
     let places = flow::net_places(net, estimate);
     let needed = flow::report(net, estimate, &places);
     let kept = *rng.pick(&[0, 60, 90, 97, 100, 100, 100, 100]);

@@ -52,6 +52,9 @@ pub fn required(kind: Kind) -> Vec<Wanted> {
             all.extend(wildcards_read().into_iter().map(wildcard));
             all.extend(wildcards_refused("net").into_iter().map(wildcard));
             all.extend(WILDCARD_LISTINGS.map(wildcard));
+            all.extend(sandbox_rows().into_iter().map(sandbox));
+            all.extend(sandboxes_checked().into_iter().map(sandbox));
+            all.push(some("sandbox: a row towards a site for each pair"));
         }
         Kind::Script => {
             all.extend((BAD_FORM..=FREE_VARIABLE).map(|n| often(format!("bring: refused {n}"))));
@@ -64,6 +67,7 @@ pub fn required(kind: Kind) -> Vec<Wanted> {
             all.extend(wildcards_refused("bring").into_iter().map(wildcard));
             all.extend(WILDCARD_SCRIPTS.map(wildcard));
             all.extend(withdrawals());
+            all.extend(sandboxes_run().into_iter().map(sandbox));
         }
     }
     all
@@ -149,6 +153,88 @@ const WILDCARD_SCRIPTS: [&str; 24] = [
     "ready finds it",
     "ready passes over it",
 ];
+
+fn sandbox(name: impl Into<String>) -> Wanted {
+    often(format!("sandbox: {}", name.into()))
+}
+
+/// What a sandbox has for `self`.
+const OWNS: [&str; 3] = ["no self row", "self row", "self -"];
+
+/// Rows without rights, read and refused.
+fn sandbox_rows() -> Vec<String> {
+    let mut all = Vec::new();
+    for t in ["a site", "self"] {
+        all.push(format!("- towards {t}"));
+        all.push(format!("net refused 1, no rights towards {t}"));
+        all.push(format!("net refused 1, -- towards {t}"));
+        all.push(format!("net refused 1, - before letters, towards {t}"));
+        all.push(format!("net refused 1, - behind letters, towards {t}"));
+        all.push(format!("net refused 2, sandbox of - towards {t}"));
+        let pairs = ["- behind -", "- behind letters", "letters behind -"];
+        all.extend(pairs.map(|pair| format!("net refused 3, {pair}, towards {t}")));
+    }
+    let others = [
+        "net refused 1, - in R",
+        "estimate refused 1, - in E",
+        "net refused 2, site of -",
+        "net refused 3, - out of place",
+        "estimate refused 3, - out of place",
+        "net refused 4, site of -",
+    ];
+    all.extend(others.map(String::from));
+    all
+}
+
+/// Where sandboxes are evaluated, and what the check says for it.
+fn sandboxes_checked() -> Vec<String> {
+    let mut all = vec!["no rights at all: evaluated".to_string()];
+    for own in OWNS {
+        let things = [
+            "evaluated at no site",
+            "evaluated at one site",
+            "evaluated at several sites",
+            "- towards a site where it is evaluated",
+            "broken elsewhere",
+            "other V rows, by an eval at one site",
+            "other V rows, by an eval at several sites",
+            "other V rows, by an accept of a root",
+            "other V rows, by an accept of a body at one site",
+            "other U rows",
+        ];
+        all.extend(things.map(|what| format!("{own}: {what}")));
+    }
+    // More rights for `self` can only break a rule, and fewer only keep it.
+    all.push("no self row: broken, accepted otherwise".to_string());
+    all.extend(["self row", "self -"].map(|own| format!("{own}: accepted, broken otherwise")));
+    all
+}
+
+/// Doors, accepts, guarded steps and `ready` that come out differently for what
+/// a sandbox has for `self`.
+fn sandboxes_run() -> Vec<String> {
+    let mut all = Vec::new();
+    let lines = ["out", "in", "read", "eval", "accept"];
+    let bodies = ["one site", "several sites"];
+    for own in OWNS {
+        let silent = own == "no self row";
+        let (door, accept, guarded, ready) = if silent {
+            ("passes, closed", "performed, 25", "performed, 26", "ready, later or none")
+        } else {
+            ("closed, passes", "refused 25, not", "refused 26, not", "not ready, earlier")
+        };
+        all.push(format!("{own}: door {door} otherwise, for its own rights"));
+        all.extend(bodies.map(|at| format!("{own}: door {door} otherwise, for a body at {at}")));
+        all.push(format!("{own}: accept {accept} otherwise"));
+        all.extend(lines.map(|line| format!("{own}: guarded {line} {guarded} otherwise")));
+        all.push(format!("{own}: guarded {guarded} otherwise, at one of several sites"));
+        all.push(format!("{own}: {ready} otherwise"));
+        // By what E rows have to have.
+        let reverse = if silent { "closed, passes" } else { "passes, closed" };
+        all.push(format!("{own}: door {reverse} otherwise, for a body at one site"));
+    }
+    all
+}
 
 fn withdrawals() -> Vec<Wanted> {
     let mut all = Vec::new();

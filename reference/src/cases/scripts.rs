@@ -6,6 +6,7 @@ use super::damage::{harm_lines, harm_rows, swap_child};
 use super::nets::{accepted, close, shape, Style, LISTING};
 use super::process::{Maker, BUSY, PLAIN};
 use super::rng::Rng;
+use super::sandboxes;
 use super::seasons;
 use super::text::{arrival_rows, bytes, estimate_rows, net_rows, Rows};
 use super::wildcards::{add_twins, harm_wildcard, unbind};
@@ -22,11 +23,14 @@ pub const STYLE: Style = Style {
     ..LISTING
 };
 
-/// How many of a hundred seeds have wildcards, if they have no withdrawals.
+/// How many of a hundred seeds have wildcards, if nothing is drawn behind it.
 const WILDCARD_SEEDS: usize = 14;
 
-/// How many of a hundred seeds have withdrawals.
+/// How many of a hundred seeds have withdrawals, likewise.
 const SEASON_SEEDS: usize = 17;
+
+/// How many of a hundred seeds are about the rows of sandboxes.
+const SANDBOX_SEEDS: usize = 15;
 
 const ODD_COMMANDS: &[&str] = &[
     "",
@@ -65,8 +69,9 @@ pub enum Aim {
     FullTuples,
 }
 
-/// One input. Whether it has wildcards is drawn behind all else, and whether it
-/// has withdrawals behind that, so that every other seed keeps its text.
+/// One input. Whether it has wildcards is drawn behind all else, whether it has
+/// withdrawals behind that, and whether it is about the rows of sandboxes behind
+/// that, so that every other seed keeps its text.
 pub fn case(rng: &mut Rng) -> Vec<u8> {
     let mut text = of_style(rng, &STYLE);
     if rng.chance(WILDCARD_SEEDS) {
@@ -75,6 +80,9 @@ pub fn case(rng: &mut Rng) -> Vec<u8> {
     }
     if rng.chance(SEASON_SEEDS) {
         text = seasons::case(rng);
+    }
+    if rng.chance(SANDBOX_SEEDS) {
+        text = sandboxes::script(rng);
     }
     text
 }

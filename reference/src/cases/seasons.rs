@@ -3,7 +3,7 @@
 //! them run, and sends them away, over and over.
 
 use super::arrivals::sender;
-use super::nets::{accepted, close, shape, some_rights, Style};
+use super::nets::{accepted, add_own, close, shape, some_rights, Style};
 use super::rng::Rng;
 use super::scripts::{chain, choices, doorway, friendly_rows, Aim, Writer, STYLE};
 use super::text::{arrival_rows, bytes, estimate_rows, net_rows, Rows};
@@ -90,7 +90,7 @@ fn fit_sandbox(rng: &mut Rng, net: &mut Net, estimate: &Estimate, site: Site, k:
         sandbox.towards[rng.below(usize::from(net.sites))] |= EVAL;
     }
     if rng.chance(80) {
-        sandbox.own |= sandbox.towards[site.index()];
+        add_own(sandbox, sandbox.towards[site.index()]);
     }
     sandbox.at(site)
 }

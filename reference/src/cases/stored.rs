@@ -1,11 +1,12 @@
 //! The cases of the stored runs: those of documents 01 and 02, those that print
-//! every set of rights but the empty one, those about a ledger's columns, those
-//! about a carrier's agents, and such seeds that every thing which can be seen
-//! in a case is seen several times.
+//! every set of rights but the empty one, those about a ledger's columns, about
+//! a carrier's agents and about an inspector, and such seeds that every thing
+//! which can be seen in a case is seen several times.
 
 use super::carriers;
 use super::cover::{seen, Cover};
 use super::heavy::{ESTIMATE, NET};
+use super::inspectors;
 use super::ledgers;
 use super::letters::every_set;
 use super::Kind;
@@ -21,7 +22,7 @@ struct Plan {
 }
 
 const LISTINGS: Plan = Plan { seeds: 20_000, count: 460, small: 2500 };
-const SCRIPTS: Plan = Plan { seeds: 4000, count: 140, small: 5000 };
+const SCRIPTS: Plan = Plan { seeds: 6000, count: 140, small: 5000 };
 
 /// A small case is taken while something in it was seen in fewer cases, a
 /// large one while something in it was seen in fewer than the lower number.
@@ -73,6 +74,7 @@ fn fixed_listings() -> Vec<Vec<u8>> {
     let mut cases = as_bytes(texts);
     cases.extend(every_set());
     cases.extend(as_bytes(ledgers::listings()));
+    cases.extend(as_bytes(inspectors::listings()));
     cases
 }
 
@@ -84,7 +86,9 @@ fn as_bytes(texts: Vec<String>) -> Vec<Vec<u8>> {
 pub fn fixed(kind: Kind) -> Vec<Vec<u8>> {
     match kind {
         Kind::Listing => fixed_listings(),
-        Kind::Script => as_bytes([ledgers::scripts(), carriers::scripts()].concat()),
+        Kind::Script => {
+            as_bytes([ledgers::scripts(), carriers::scripts(), inspectors::scripts()].concat())
+        }
     }
 }
 

@@ -22,14 +22,23 @@ pub fn net_rows(net: &Net) -> Rows {
         for (t, &rights) in sandbox.towards.iter().enumerate().filter(|(_, &r)| r != 0) {
             rows.push(format!("D,{k},s{t},{}", letters(rights)));
         }
-        if sandbox.own != 0 {
-            rows.push(format!("D,{k},self,{}", letters(sandbox.own)));
+        if let Some(rights) = sandbox.own {
+            rows.push(format!("D,{k},self,{}", letters_or_none(rights)));
         }
     }
     rows.extend(net.tuples.iter().map(|tuple| tuple_row('T', tuple)));
     rows.extend(net.roots.iter().map(|root| format!("L,s{},{}", root.site.0, root.line)));
     rows.extend(net.lines.iter().enumerate().map(|(q, line)| line_row(q, line)));
     rows.into_iter().map(String::into_bytes).collect()
+}
+
+/// The rights of a D row.
+pub fn letters_or_none(rights: u8) -> String {
+    if rights == NO_RIGHTS {
+        "-".to_string()
+    } else {
+        letters(rights)
+    }
 }
 
 pub fn estimate_rows(estimate: &Estimate) -> Rows {

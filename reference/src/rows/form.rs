@@ -22,7 +22,7 @@ pub enum Group {
 pub enum Row {
     N(u8),
     R(Site, Site, u8),
-    /// The second part is `None` for `self`.
+    /// The second part is `None` for `self`; the rights may be none.
     D(u8, Option<Site>, u8),
     T(Tuple),
     L(Root),
@@ -126,13 +126,22 @@ impl Cursor<'_> {
 
     /// "Rights are letters in the order `oirea`, at least one."
     fn rights(&mut self) -> Option<u8> {
-        let mut rights = 0;
+        let mut rights = NO_RIGHTS;
         for (bit, &letter) in LETTERS.iter().enumerate() {
             if self.word(&[letter]).is_some() {
                 rights |= 1 << bit;
             }
         }
-        (rights != 0).then_some(rights)
+        (rights != NO_RIGHTS).then_some(rights)
+    }
+
+    /// The rights of a D row: letters, or `-`, "the empty set, allowed in D rows
+    /// only" (document 02, No. 3).
+    fn sandbox_rights(&mut self) -> Option<u8> {
+        if self.word(b"-").is_some() {
+            return Some(NO_RIGHTS);
+        }
+        self.rights()
     }
 
     /// Site, `self` or variable; in a template also `!u` and `_`. "`_` in
@@ -167,7 +176,7 @@ impl Cursor<'_> {
         self.comma()?;
         let object = if self.word(b"self").is_some() { None } else { Some(self.site()?) };
         self.comma()?;
-        Some(Row::D(number, object, self.rights()?))
+        Some(Row::D(number, object, self.sandbox_rights()?))
     }
 
     /// A site and 1 to 4 sites, to the end of the row.

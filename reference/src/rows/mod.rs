@@ -24,6 +24,7 @@ pub const READ: u8 = 4;
 pub const EVAL: u8 = 8;
 pub const ACCEPT: u8 = 16;
 pub const ALL_RIGHTS: u8 = OUT | IN | READ | EVAL | ACCEPT;
+pub const NO_RIGHTS: u8 = 0;
 /// The letters of the rights, lowest bit first.
 pub const LETTERS: [u8; 5] = *b"oirea";
 
@@ -44,7 +45,7 @@ pub type Mask = u32;
 /// "A policy gives each site a set of rights, empty where no row speaks."
 pub type Policy = [u8; SITES];
 
-pub const EMPTY_POLICY: Policy = [0; SITES];
+pub const EMPTY_POLICY: Policy = [NO_RIGHTS; SITES];
 
 #[derive(Clone, Copy, PartialEq, Eq, Debug)]
 pub struct Site(pub u8);
@@ -123,18 +124,25 @@ pub fn count_rights(policy: &[u8]) -> u32 {
 #[derive(Clone, Copy, PartialEq, Eq, Debug)]
 pub struct Sandbox {
     pub towards: Policy,
-    /// The row for `self`.
-    pub own: u8,
+    /// The row for `self`, if there is one.
+    pub own: Option<u8>,
 }
 
 impl Sandbox {
-    pub const EMPTY: Sandbox = Sandbox { towards: EMPTY_POLICY, own: 0 };
+    /// A sandbox without rows.
+    pub const SILENT: Sandbox = Sandbox { towards: EMPTY_POLICY, own: None };
+
+    /// "a sandbox with no `self` row has all five rights for `self`" (document
+    /// 02, No. 3).
+    pub fn for_self(&self) -> u8 {
+        self.own.unwrap_or(ALL_RIGHTS)
+    }
 
     /// "Evaluated at site l, sandbox d gives site t the set d(t), but gives
     /// l itself d(l) ∩ d(self)."
     pub fn at(&self, l: Site) -> Policy {
         let mut policy = self.towards;
-        policy[l.index()] &= self.own;
+        policy[l.index()] &= self.for_self();
         policy
     }
 }
@@ -264,7 +272,7 @@ impl Net {
         Net {
             sites: 0,
             home: [EMPTY_POLICY; SITES],
-            sandboxes: [Sandbox::EMPTY; SANDBOXES],
+            sandboxes: [Sandbox::SILENT; SANDBOXES],
             tuples: List::filled(Tuple::BLANK),
             roots: List::filled(Root { site: Site(0), line: 0 }),
             lines: List::filled(Line::Nil),

@@ -38,37 +38,44 @@ pub fn read_net(text: &[u8], net: &mut Net) -> Result<(), Refusal> {
     if text.is_empty() {
         return Err(Refusal { number: OUT_OF_ORDER, row: 1 });
     }
-    let mut last = None;
-    let mut in_turn = true;
-    each_row(text, |bytes| net_row(net, &mut last, &mut in_turn, bytes))?;
-    whole_text(&net.lines, in_turn, net.roots.iter().map(|root| root.line)).map_err(Refusal::whole)
+    let mut above = Above { last: None, in_turn: true, spoken: [0; SANDBOXES] };
+    each_row(text, |bytes| net_row(net, &mut above, bytes))?;
+    let roots = net.roots.iter().map(|root| root.line);
+    whole_text(&net.lines, above.in_turn, roots).map_err(Refusal::whole)
 }
 
-fn net_row(
-    net: &mut Net,
-    last: &mut Option<Group>,
-    in_turn: &mut bool,
-    bytes: &[u8],
-) -> Result<(), u8> {
+/// What is kept of the rows above one, beside the net itself.
+struct Above {
+    last: Option<Group>,
+    /// Whether each Q row has had the next number.
+    in_turn: bool,
+    /// The sites towards which each sandbox has a row: `-` leaves no rights by
+    /// which it could be seen.
+    spoken: [Mask; SANDBOXES],
+}
+
+fn net_row(net: &mut Net, above: &mut Above, bytes: &[u8]) -> Result<(), u8> {
     let (row, over) = parse_row(bytes).ok_or(BAD_FORM)?;
     let group = row.group();
     if over || net_is_full(net, group) {
         return Err(OVER_LIMIT);
     }
-    let ordered = match *last {
+    let ordered = match above.last {
         None => group == Group::N,
         Some(before) => before <= group && group != Group::N && group <= Group::Q,
     };
-    if !ordered || net_repeats(net, &row) {
+    if !ordered || net_repeats(net, above, &row) {
         return Err(OUT_OF_ORDER);
     }
-    *last = Some(group);
+    above.last = Some(group);
     if let Row::N(n) = row {
         net.sites = n;
     }
     sites_and_template(&row, net.sites)?;
-    if let Row::Q(number, _) = row {
-        *in_turn &= usize::from(number) == net.lines.len();
+    match row {
+        Row::Q(number, _) => above.in_turn &= usize::from(number) == net.lines.len(),
+        Row::D(k, Some(t), _) => above.spoken[usize::from(k)] |= t.bit(),
+        _ => {}
     }
     add_to_net(net, row);
     Ok(())
@@ -96,13 +103,13 @@ fn net_is_full(net: &Net, group: Group) -> bool {
 }
 
 /// "R, D and E rows repeat if their first two fields do, T, L, B and A rows
-/// if all do, Q rows never." A row's rights are never empty, so that a pair
-/// has been met if and only if it has rights.
-fn net_repeats(net: &Net, row: &Row) -> bool {
+/// if all do, Q rows never." The rights of R and E rows are never empty, so
+/// that such a pair has been met if and only if it has rights.
+fn net_repeats(net: &Net, above: &Above, row: &Row) -> bool {
     match row {
-        Row::R(s, t, _) => net.home[s.index()][t.index()] != 0,
-        Row::D(k, Some(t), _) => net.sandboxes[usize::from(*k)].towards[t.index()] != 0,
-        Row::D(k, None, _) => net.sandboxes[usize::from(*k)].own != 0,
+        Row::R(s, t, _) => net.home[s.index()][t.index()] != NO_RIGHTS,
+        Row::D(k, Some(t), _) => above.spoken[usize::from(*k)] & t.bit() != 0,
+        Row::D(k, None, _) => net.sandboxes[usize::from(*k)].own.is_some(),
         Row::T(tuple) => net.tuples.contains(tuple),
         Row::L(root) => net.roots.contains(root),
         _ => false,
@@ -113,7 +120,7 @@ fn add_to_net(net: &mut Net, row: Row) {
     match row {
         Row::R(s, t, rights) => net.home[s.index()][t.index()] = rights,
         Row::D(k, Some(t), rights) => net.sandboxes[usize::from(k)].towards[t.index()] = rights,
-        Row::D(k, None, rights) => net.sandboxes[usize::from(k)].own = rights,
+        Row::D(k, None, rights) => net.sandboxes[usize::from(k)].own = Some(rights),
         Row::T(tuple) => net.tuples.push(tuple),
         Row::L(root) => net.roots.push(root),
         Row::Q(_, line) => net.lines.push(line),
@@ -153,7 +160,7 @@ fn estimate_repeats(estimate: &Estimate, row: &Row) -> bool {
     match row {
         Row::B(u, s) => estimate.binds[u.index()] & s.bit() != 0,
         Row::A(tuple) => estimate.tuples.contains(tuple),
-        Row::E(s, t, _) => estimate.rights[s.index()][t.index()] != 0,
+        Row::E(s, t, _) => estimate.rights[s.index()][t.index()] != NO_RIGHTS,
         _ => false,
     }
 }

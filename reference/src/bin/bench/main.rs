@@ -229,13 +229,13 @@ fn door_job(heavy: &Heavy, at: [u8; 3]) -> Job<'_> {
 }
 
 fn jobs<'a>(inputs: &'a Inputs) -> Vec<Job<'a>> {
-    let Inputs { march, large, halves, checks, mixed_sets, .. } = inputs;
+    let Inputs { march, large, smallest, halves, checks, mixed_sets, .. } = inputs;
     let Inputs { cycles, refusals, mixed, closed, waiting, arrived, withdrawals, .. } = inputs;
     let texts = || checks.iter().map(from_ref).chain([&mixed_sets[..]]);
     let mut jobs: Vec<Job> = texts().map(check_job).collect();
     jobs.extend(texts().map(read_job));
     jobs.extend(texts().chain([from_ref(halves)]).map(list_job));
-    jobs.extend([march, large, mixed].map(start_job));
+    jobs.extend([march, large, smallest, mixed].map(start_job));
     jobs.extend(cycles.iter().filter(|heavy| !heavy.arrival.is_empty()).map(bring_job));
     jobs.extend(arrived.iter().map(bring_job));
     jobs.extend(withdrawals.iter().flat_map(withdraw_jobs));
@@ -257,6 +257,7 @@ fn jobs<'a>(inputs: &'a Inputs) -> Vec<Job<'a>> {
 struct Inputs {
     march: Heavy,
     large: Heavy,
+    smallest: Heavy,
     halves: Heavy,
     checks: Vec<Heavy>,
     /// Timed in turn.
@@ -274,6 +275,7 @@ fn main() {
     let inputs = Inputs {
         march: heavy::march(),
         large: heavy::large(),
+        smallest: heavy::smallest(),
         halves: heavy::halves(),
         checks: heavy::checks(),
         mixed_sets: heavy::mixed_sets(),
