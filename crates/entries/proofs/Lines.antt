@@ -13,6 +13,7 @@ use Rattle.sets.proofs.Lists.{and-l, and-r}
 use Rattle.klaim.specs.Limits.{siteLimit}
 use Rattle.klaim.specs.Rows.{Row, groupQ, rowLine}
 use Rattle.klaim.specs.Reader.{inLimits}
+use Rattle.klaim.proofs.Within.{within}
 use Rattle.text.specs.declared.Name.{Name}
 use Rattle.text.specs.Fields.{upTo, loc, slot}
 use Rattle.lines.specs.declared.LineData.{LineData}
@@ -139,10 +140,6 @@ module _ (r : RowData) (G : rowGood r ≡ true) where
       let s : rowData r ≡ rowAs (r .group) (r .size) [] [] (r .line .target .number ∷ numbers (r .line .fields)) [] (r .rights) = cc in
       ap (λ (x : Row). x .sites) s
 
-  sites-low : (R : Row) → inLimits R ≡ true → all (λ s. ltb s siteLimit) (R .sites) ≡ true
-  unfolding inLimits
-  sites-low R h = and-l _ _ (and-r _ _ (and-r _ _ (and-r _ _ h)))
-
   bytes-are : (ms : List Name) → all (λ s. ltb s siteLimit) (map (λ (m : Name). m .number) ms) ≡ true → map (λ (m : Name). byteOf (m .number)) ms ≡ map (λ (m : Name). m .number) ms
   unfolding all
   bytes-are [] h = refl
@@ -158,6 +155,6 @@ module _ (r : RowData) (G : rowGood r ≡ true) where
   unfolding all
   tuple-is t h =
       let s = sites-of t in
-      let l : all (λ s. ltb s siteLimit) (r .line .target .number ∷ numbers (r .line .fields)) ≡ true = rw s at (sites-low (rowData r) h) in
+      let l : all (λ s. ltb s siteLimit) (r .line .target .number ∷ numbers (r .line .fields)) ≡ true = rw s at (within (rowData r) h .sites-low) in
       let b = ltb-true (r .line .target .number) siteLimit (and-l _ _ l) in
       tuple-coded (r .line) ∙ rw (byte-low (r .line .target .number) (omega arith), bytes-are (names (r .line .fields)) (and-r _ _ l), s)

@@ -12,15 +12,15 @@ use lib.ListN.{length, getD, drop}
 use Rattle.sets.specs.Lists.{_&_, either, all, same}
 use Rattle.sets.proofs.Lists.{or-case, eqb-eq}
 use Rattle.klaim.specs.Process.{Nil}
-use Rattle.klaim.specs.Rows.{Row, at, text, given, number, siteField, varField, rightsField, lineForm, groupN, groupR, groupD, groupT, groupL, groupB, groupA, groupE, rowN, rowPair, rowD, rowTuple, rowL, rowB, rowQ, rowLine, rowForm}
+use Rattle.klaim.specs.Rows.{Row, at, text, given, number, siteField, varField, rightsField, boxRightsField, lineForm, groupN, groupR, groupD, groupT, groupL, groupB, groupA, groupE, rowN, rowPair, rowD, rowTuple, rowL, rowB, rowQ, rowLine, rowForm}
 use Rattle.text.specs.declared.Name.{Name}
-use Rattle.text.specs.Fields.{numberOf, rightsOf, upTo, sitesTo, Named, letters, letterOf}
+use Rattle.text.specs.Fields.{numberOf, rightsOf, boxRightsOf, upTo, sitesTo, Named, letters, letterOf}
 use Rattle.text.proofs.Names.{choose, distinct, otherwise-none, chosen, chosen-none, placed-low}
 use Rattle.lines.specs.declared.Four.{Four}
 use Rattle.lines.specs.declared.LineData.{LineData}
 use Rattle.lines.specs.Lines.{names, fitAll, FourAt, lineOf, lineView, lineShape}
 use Rattle.forms.specs.declared.RowData.{RowData}
-use Rattle.forms.specs.Forms.{pairGroup, tupleGroup, plainShape, plainGood, rowGood}
+use Rattle.forms.specs.Forms.{pairGroup, tupleGroup, noRights, someRights, saidRights, plainShape, plainGood, rowGood}
 use Rattle.lines.proofs.Templates.{fields-are}
 use Rattle.lines.proofs.LineKinds.{given-then, below}
 
@@ -40,8 +40,8 @@ module _ (fs : List (List ℕ)) (m : ℕ) (M : m ≡ length fs) where
   unfolding rowPair numberOf rightsOf
   pair-by g s t r p q e = rw (← M, ← p, ← q, ← e) (simp given-then)
 
-  pub box-by : (k : ℕ) (t : Name) (r : ℕ) → numberOf k ≡ number (at fs 1) → Named (at fs 2) t → rightsOf r ≡ rightsField (at fs 3) → rowD fs ≡ given (eqb m 4) (given (below k) (given (upTo 2 t) (given (ltb 0 r) (some (rowAs groupD 0 (k ∷ []) [] (sitesTo t) [] r)))))
-  unfolding rowD numberOf rightsOf
+  pub box-by : (k : ℕ) (t : Name) (r : ℕ) → numberOf k ≡ number (at fs 1) → Named (at fs 2) t → boxRightsOf r ≡ boxRightsField (at fs 3) → rowD fs ≡ given (eqb m 4) (given (below k) (given (upTo 2 t) (given (saidRights r) (some (rowAs groupD 0 (k ∷ []) [] (sitesTo t) [] r)))))
+  unfolding rowD numberOf boxRightsOf
   box-by k t r p N e = rw (← M, ← p, ← N .toward, ← e) (simp given-then)
 
   pub root-by : (s q : ℕ) → numberOf s ≡ siteField (at fs 1) → numberOf q ≡ number (at fs 2) → rowL fs ≡ given (eqb m 3) (given (below s) (given (below q) (some (rowAs groupL 0 [] [] (s ∷ []) (q ∷ []) 0))))
@@ -121,7 +121,7 @@ pair-some g h = ⊎-elim (λ e. rw e) (λ e. rw e) (pair-case g h)
 pub tuple-some : (g : ℕ) → tupleGroup g ≡ true → ltb 0 g ≡ true
 tuple-some g h = ⊎-elim (λ e. rw e) (λ e. rw e) (tuple-case g h)
 
-pub pair-good : (r : RowData) → pairGroup (r .group) ≡ true → r .line .kind ≡ 0 → eqb (r .line .fields .count) 1 & plainShape true false false false 1 1 r ≡ true → rowGood r ≡ true
+pub pair-good : (r : RowData) → pairGroup (r .group) ≡ true → r .line .kind ≡ 0 → eqb (r .line .fields .count) 1 & plainShape someRights false false false 1 1 r ≡ true → rowGood r ≡ true
 unfolding rowGood plainGood plainShape lineShape pairGroup tupleGroup either _&_
 pair-good r g k h = go (pair-case (r .group) g)
   where
@@ -129,7 +129,7 @@ pair-good r g k h = go (pair-case (r .group) g)
     go (inl e) = rw (e, k) h
     go (inr e) = rw (e, k) h
 
-pub tuple-good : (r : RowData) → tupleGroup (r .group) ≡ true → r .line .kind ≡ 0 → plainShape false false false false 1 1 r ≡ true → rowGood r ≡ true
+pub tuple-good : (r : RowData) → tupleGroup (r .group) ≡ true → r .line .kind ≡ 0 → plainShape noRights false false false 1 1 r ≡ true → rowGood r ≡ true
 unfolding rowGood plainGood plainShape lineShape pairGroup tupleGroup either _&_
 tuple-good r g k h = go (tuple-case (r .group) g)
   where

@@ -2,7 +2,7 @@
 -- Assumes nothing.
 use mathlib.Core.Path.{_≡_, _∙_}
 use mathlib.Core.Logic.{_⊎_, inl, inr}
-use mathlib.Core.Bool.{Bool, true, false, cond}
+use mathlib.Core.Bool.{Bool, true, false}
 use mathlib.Core.List.{List, [], _∷_}
 use mathlib.Core.Option.{none, some}
 use Prim.Native.Nat.{ℕ, _<_}
@@ -13,11 +13,11 @@ use Rattle.sets.specs.Lists.{_&_, either, only, _⧺_}
 use Rattle.sets.proofs.Lists.{and-l, and-r, eqb-eq}
 use Rattle.klaim.specs.Rows.{Row, given, groupN, groupR, groupD, groupT, groupL, groupQ, groupB, groupA, groupE, rowLine}
 use Rattle.text.specs.declared.Name.{Name}
-use Rattle.text.specs.Fields.{noNumber, upTo, sitesTo}
+use Rattle.text.specs.Fields.{noNumber, unsaid, upTo, sitesTo}
 use Rattle.lines.specs.declared.Four.{Four}
 use Rattle.lines.specs.Lines.{names, fitAll, present, nameFits, fieldsFit, lineOf, lineShape, lineGood}
 use Rattle.forms.specs.declared.RowData.{RowData}
-use Rattle.forms.specs.Forms.{listed, plainRow, rowData, rowView, pairGroup, tupleGroup, plainShape, plainGood, rowGood}
+use Rattle.forms.specs.Forms.{listed, plainRow, rowData, rowView, pairGroup, tupleGroup, noRights, someRights, saidRights, plainShape, plainGood, rowGood}
 use Rattle.sets.proofs.Runs.{cat-none}
 use Rattle.forms.proofs.RowForms.{rowAs, numbers, pair-case, tuple-case, pair-some, tuple-some}
 
@@ -49,15 +49,15 @@ unfolding names
 one-field f p = let e : f .count ≡ 1 = eqb-eq p in rw e
 
 -- a row that is no Q row, in parts
-record Parts (rights variable own sandbox : Bool) (target fields : ℕ) (r : RowData) : Type 0 where
-  rights-is : cond rights (ltb 0 (r .rights)) (eqb (r .rights) 0) ≡ true
+record Parts (rights : ℕ → Bool) (variable own sandbox : Bool) (target fields : ℕ) (r : RowData) : Type 0 where
+  rights-is : rights (r .rights) ≡ true
   variable-is : present variable (r .variable) ≡ true
   own-is : present own (r .own) ≡ true
   sandbox-is : present sandbox (r .line .sandbox) ≡ true
   target-is : nameFits target (r .line .target) ≡ true
   fields-is : fieldsFit fields (r .line .fields) ≡ true
 
-parts : {a b c d : Bool} {t f : ℕ} {r : RowData} → plainShape a b c d t f r ≡ true → Parts a b c d t f r
+parts : {a : ℕ → Bool} {b c d : Bool} {t f : ℕ} {r : RowData} → plainShape a b c d t f r ≡ true → Parts a b c d t f r
 unfolding plainShape lineShape
 parts h =
     let v = and-r _ _ h in
@@ -97,7 +97,7 @@ unfolding plainRow
 row-from r boxes vars sites lines g k b v s l = view-plain r g (eqb-eq k) ∙ rw (b, v, s, l)
 
 module _ (r : RowData) (G : rowGood r ≡ true) where
-  shape-n : r .group ≡ groupN → eqb (r .line .kind) 0 & plainShape false false false false 0 0 r ≡ true
+  shape-n : r .group ≡ groupN → eqb (r .line .kind) 0 & plainShape noRights false false false 0 0 r ≡ true
   unfolding rowGood plainGood plainShape lineShape pairGroup tupleGroup either
   shape-n e = rw e at G
 
@@ -107,11 +107,11 @@ module _ (r : RowData) (G : rowGood r ≡ true) where
       let P = parts (and-r _ _ (shape-n e)) in
       row-from r [] [] [] [] (rw e) (and-l _ _ (shape-n e)) (absent _ (P .sandbox-is)) (absent _ (P .variable-is)) (rw (no-site _ (P .target-is), no-fields _ (P .fields-is))) (absent _ (P .own-is))
 
-  shape-pair : pairGroup (r .group) ≡ true → eqb (r .line .kind) 0 & eqb (r .line .fields .count) 1 & plainShape true false false false 1 1 r ≡ true
+  shape-pair : pairGroup (r .group) ≡ true → eqb (r .line .kind) 0 & eqb (r .line .fields .count) 1 & plainShape someRights false false false 1 1 r ≡ true
   unfolding rowGood plainGood plainShape lineShape pairGroup tupleGroup either
   shape-pair h = go (pair-case (r .group) h)
     where
-      go : (r .group ≡ groupR) ⊎ (r .group ≡ groupE) → eqb (r .line .kind) 0 & eqb (r .line .fields .count) 1 & plainShape true false false false 1 1 r ≡ true
+      go : (r .group ≡ groupR) ⊎ (r .group ≡ groupE) → eqb (r .line .kind) 0 & eqb (r .line .fields .count) 1 & plainShape someRights false false false 1 1 r ≡ true
       go (inl e) = rw e at G
       go (inr e) = rw e at G
 
@@ -123,20 +123,20 @@ module _ (r : RowData) (G : rowGood r ≡ true) where
       let P = parts (and-r _ _ s) in
       (row-from r [] [] _ [] (pair-some _ h) (and-l _ _ (shape-pair h)) (absent _ (P .sandbox-is)) (absent _ (P .variable-is)) (rw (one-site _ (P .target-is), one-field _ (and-l _ _ s))) (absent _ (P .own-is)), ltb-true 0 (r .rights) (P .rights-is))
 
-  shape-d : r .group ≡ groupD → eqb (r .line .kind) 0 & plainShape true false false true 2 0 r ≡ true
+  shape-d : r .group ≡ groupD → eqb (r .line .kind) 0 & plainShape saidRights false false true 2 0 r ≡ true
   unfolding rowGood plainGood plainShape lineShape pairGroup tupleGroup either
   shape-d e = rw e at G
 
-  pub view-d : r .group ≡ groupD → (rowView r ≡ some (rowAs (r .group) (r .size) (r .line .sandbox ∷ []) [] (sitesTo (r .line .target)) [] (r .rights))) × (0 < r .rights)
+  pub view-d : r .group ≡ groupD → (rowView r ≡ some (rowAs (r .group) (r .size) (r .line .sandbox ∷ []) [] (sitesTo (r .line .target)) [] (r .rights))) × (r .rights < unsaid)
   view-d e =
       let P = parts (and-r _ _ (shape-d e)) in
-      (row-from r _ [] _ [] (rw e) (and-l _ _ (shape-d e)) (there _ (P .sandbox-is)) (absent _ (P .variable-is)) (rw (no-fields _ (P .fields-is)) (cat-none _)) (absent _ (P .own-is)), ltb-true 0 (r .rights) (P .rights-is))
+      (row-from r _ [] _ [] (rw e) (and-l _ _ (shape-d e)) (there _ (P .sandbox-is)) (absent _ (P .variable-is)) (rw (no-fields _ (P .fields-is)) (cat-none _)) (absent _ (P .own-is)), ltb-true (r .rights) unsaid (P .rights-is))
 
-  shape-tuple : tupleGroup (r .group) ≡ true → eqb (r .line .kind) 0 & plainShape false false false false 1 1 r ≡ true
+  shape-tuple : tupleGroup (r .group) ≡ true → eqb (r .line .kind) 0 & plainShape noRights false false false 1 1 r ≡ true
   unfolding rowGood plainGood plainShape lineShape pairGroup tupleGroup either
   shape-tuple h = go (tuple-case (r .group) h)
     where
-      go : (r .group ≡ groupT) ⊎ (r .group ≡ groupA) → eqb (r .line .kind) 0 & plainShape false false false false 1 1 r ≡ true
+      go : (r .group ≡ groupT) ⊎ (r .group ≡ groupA) → eqb (r .line .kind) 0 & plainShape noRights false false false 1 1 r ≡ true
       go (inl e) = rw e at G
       go (inr e) = rw e at G
 
@@ -147,7 +147,7 @@ module _ (r : RowData) (G : rowGood r ≡ true) where
       let P = parts (and-r _ _ (shape-tuple h)) in
       (row-from r [] [] _ [] (tuple-some _ h) (and-l _ _ (shape-tuple h)) (absent _ (P .sandbox-is)) (absent _ (P .variable-is)) (rw (one-site _ (P .target-is))) (absent _ (P .own-is)), P .fields-is)
 
-  shape-l : r .group ≡ groupL → eqb (r .line .kind) 0 & plainShape false false true false 1 0 r ≡ true
+  shape-l : r .group ≡ groupL → eqb (r .line .kind) 0 & plainShape noRights false true false 1 0 r ≡ true
   unfolding rowGood plainGood plainShape lineShape pairGroup tupleGroup either
   shape-l e = rw e at G
 
@@ -157,7 +157,7 @@ module _ (r : RowData) (G : rowGood r ≡ true) where
       let P = parts (and-r _ _ (shape-l e)) in
       row-from r [] [] _ _ (rw e) (and-l _ _ (shape-l e)) (absent _ (P .sandbox-is)) (absent _ (P .variable-is)) (rw (one-site _ (P .target-is), no-fields _ (P .fields-is))) (there _ (P .own-is))
 
-  shape-b : r .group ≡ groupB → eqb (r .line .kind) 0 & plainShape false true false false 1 0 r ≡ true
+  shape-b : r .group ≡ groupB → eqb (r .line .kind) 0 & plainShape noRights true false false 1 0 r ≡ true
   unfolding rowGood plainGood plainShape lineShape pairGroup tupleGroup either _&_
   shape-b e = rw e at G
 

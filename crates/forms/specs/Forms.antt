@@ -9,7 +9,7 @@ use Rattle.sets.specs.Lists.{_&_, either, only, _⧺_}
 use Rattle.klaim.specs.Process.{Nil}
 use Rattle.klaim.specs.Rows.{Row, given, rowLine, groupN, groupR, groupD, groupT, groupL, groupQ, groupB, groupA, groupE}
 use Rattle.text.specs.declared.Name.{Name}
-use Rattle.text.specs.Fields.{noNumber, sitesTo}
+use Rattle.text.specs.Fields.{noNumber, unsaid, sitesTo}
 use Rattle.lines.specs.Lines.{names, lineOf, present, lineShape, lineGood}
 use Rattle.forms.specs.declared.RowData.{RowData}
 
@@ -43,20 +43,30 @@ pairGroup g = either (eqb g groupR) (eqb g groupE)
 unfoldable pub tupleGroup : ℕ → Bool
 tupleGroup g = either (eqb g groupT) (eqb g groupA)
 
--- whether rights, a variable, a line and a sandbox stand there, and the kinds of the target and of the fields
-unfoldable pub plainShape : Bool → Bool → Bool → Bool → ℕ → ℕ → RowData → Bool
+-- what stands as rights: nothing; a set that is not empty; a set
+abbrev pub noRights : ℕ → Bool
+noRights r = eqb r 0
+
+abbrev pub someRights : ℕ → Bool
+someRights r = ltb 0 r
+
+abbrev pub saidRights : ℕ → Bool
+saidRights r = ltb r unsaid
+
+-- what stands as rights, whether a variable, a line and a sandbox stand there, and the kinds of the target and of the fields
+unfoldable pub plainShape : (ℕ → Bool) → Bool → Bool → Bool → ℕ → ℕ → RowData → Bool
 plainShape rights variable own sandbox target fields r =
-    cond rights (ltb 0 (r .rights)) (eqb (r .rights) 0)
+    rights (r .rights)
     & present variable (r .variable) & present own (r .own) & lineShape false false sandbox target fields (r .line)
 
 unfoldable pub plainGood : RowData → Bool
 plainGood r =
-    cond (pairGroup (r .group)) (eqb (r .line .fields .count) 1 & plainShape true false false false 1 1 r)
-    (cond (tupleGroup (r .group)) (plainShape false false false false 1 1 r)
-    (cond (eqb (r .group) groupN) (plainShape false false false false 0 0 r)
-    (cond (eqb (r .group) groupD) (plainShape true false false true 2 0 r)
-    (cond (eqb (r .group) groupL) (plainShape false false true false 1 0 r)
-    (eqb (r .group) groupB & plainShape false true false false 1 0 r)))))
+    cond (pairGroup (r .group)) (eqb (r .line .fields .count) 1 & plainShape someRights false false false 1 1 r)
+    (cond (tupleGroup (r .group)) (plainShape noRights false false false 1 1 r)
+    (cond (eqb (r .group) groupN) (plainShape noRights false false false 0 0 r)
+    (cond (eqb (r .group) groupD) (plainShape saidRights false false true 2 0 r)
+    (cond (eqb (r .group) groupL) (plainShape noRights false true false 1 0 r)
+    (eqb (r .group) groupB & plainShape noRights true false false 1 0 r)))))
 
 -- what stands in a row of good form is what its group has, and nothing else
 unfoldable pub rowGood : RowData → Bool

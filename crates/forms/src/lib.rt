@@ -4,9 +4,9 @@ ghost use mathlib.Core.Bool.{true};
 ghost use mathlib.Core.List.{List};
 ghost use Prim.Native.Nat.{ℕ};
 ghost use lib.ListN.{length, drop};
-ghost use Rattle.klaim.specs.Rows.{split, comma, at, number, siteField, varField, rightsField, lineForm, rowN, rowPair, rowD, rowTuple, rowL, rowB, rowQ, rowForm, rowOf};
+ghost use Rattle.klaim.specs.Rows.{split, comma, at, number, siteField, varField, rightsField, boxRightsField, lineForm, rowN, rowPair, rowD, rowTuple, rowL, rowB, rowQ, rowForm, rowOf};
 ghost use Rattle.text.specs.Pieces.{Cut};
-ghost use Rattle.text.specs.Fields.{numberOf, rightsOf, Named, letterOf};
+ghost use Rattle.text.specs.Fields.{numberOf, rightsOf, boxRightsOf, Named, letterOf};
 ghost use Rattle.lines.specs.Lines.{FourAt, lineView, lineGood};
 ghost use Rattle.forms.specs.Forms.{rowView, rowGood, pairGroup, tupleGroup};
 use lines::Four;
@@ -26,6 +26,7 @@ use text::GROUP_T;
 use text::NO_NUMBER;
 use text::Name;
 use text::SITE;
+use text::UNSAID;
 
 // A row: its group, 0 where it is not of its form. `size` is the n of an N row, `variable` the u of a B row, `own` the line of
 // an L row and the number of a Q row; `line` has the sandbox of a D row, the sites of other rows as target and fields, and the
@@ -110,7 +111,7 @@ fn form_pair(group: u8, m: usize, s: u16, t: u16, rights: u8) -> RowData
 
 // A D row.
 fn form_box(m: usize, k: u16, t: Name, rights: u8) -> RowData
-    ensures { λ r. ⌜ ((fs : List (List ℕ)) → m ≡ length fs → numberOf k ≡ number (at fs 1) → Named (at fs 2) t → rightsOf rights ≡ rightsField (at fs 3) → rowView r ≡ rowD fs) ⌝ }
+    ensures { λ r. ⌜ ((fs : List (List ℕ)) → m ≡ length fs → numberOf k ≡ number (at fs 1) → Named (at fs 2) t → boxRightsOf rights ≡ boxRightsField (at fs 3) → rowView r ≡ rowD fs) ⌝ }
     ensures { λ r. ⌜ rowGood r ≡ true ⌝ }
 {
     if m != 4 {
@@ -119,7 +120,7 @@ fn form_box(m: usize, k: u16, t: Name, rights: u8) -> RowData
     if NO_NUMBER <= k {
         return NO_ROW;
     }
-    if rights == 0 {
+    if UNSAID <= rights {
         return NO_ROW;
     }
     if lines::fit(t, PLACES) {
@@ -260,7 +261,7 @@ fn row_box(row: &[u8], edges: &[usize; EDGES], n: usize) -> RowData
 {
     let k = lines::number_at(row, edges, n, 1);
     let t = lines::name_at(row, edges, n, 2);
-    form_box(n, k, t, lines::rights_at(row, edges, n, 3))
+    form_box(n, k, t, lines::box_rights_at(row, edges, n, 3))
 }
 
 fn row_tuple(group: u8, row: &[u8], edges: &[usize; EDGES], n: usize) -> RowData

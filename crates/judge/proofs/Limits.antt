@@ -21,7 +21,7 @@ use Rattle.text.proofs.Names.{by-kind}
 use Rattle.lines.specs.declared.LineData.{LineData}
 use Rattle.lines.specs.Lines.{names, present, lineOf, lineShape, lineGood}
 use Rattle.forms.specs.declared.RowData.{RowData}
-use Rattle.forms.specs.Forms.{listed, plainRow, rowData, pairGroup, tupleGroup, plainShape, plainGood, rowGood}
+use Rattle.forms.specs.Forms.{listed, plainRow, rowData, pairGroup, tupleGroup, noRights, someRights, saidRights, plainShape, plainGood, rowGood}
 use Rattle.forms.proofs.RowForms.{rowAs, pair-case, pair-some}
 use Rattle.forms.proofs.Views.{row-of, view-pair}
 use Rattle.judge.specs.Judge.{lowNumber, lowName, lowNames, lowNumbers, lowSize, lowVariable, rowLimits}
@@ -72,7 +72,7 @@ pub record Plain (r : RowData) : Type 0 where
   pub target-low : r .line .target .kind ≤ 2
   pub fields-low : all (upTo 1) (names (r .line .fields)) ≡ true
 
-plain-of : (a b c s : Bool) (t f : ℕ) {r : RowData} → t ≤ 2 → f ≤ 1 → plainShape a b c s t f r ≡ true → Plain r
+plain-of : (a : ℕ → Bool) (b c s : Bool) (t f : ℕ) {r : RowData} → t ≤ 2 → f ≤ 1 → plainShape a b c s t f r ≡ true → Plain r
 unfolding plainShape lineShape present
 plain-of a b c s t f {r} low few h =
     let n = and-r _ _ (and-r _ _ (and-r _ _ h)) in
@@ -92,12 +92,12 @@ cond-case false h = inr h
 plain-good : (r : RowData) → plainGood r ≡ true → Plain r
 unfolding plainGood
 plain-good r h =
-    ⊎-elim (λ p. plain-of true false false false 1 1 (omega arith) (omega arith) (and-r _ _ p))
-    (λ h. ⊎-elim (plain-of false false false false 1 1 (omega arith) (omega arith))
-    (λ h. ⊎-elim (plain-of false false false false 0 0 (omega arith) (omega arith))
-    (λ h. ⊎-elim (plain-of true false false true 2 0 (omega arith) (omega arith))
-    (λ h. ⊎-elim (plain-of false false true false 1 0 (omega arith) (omega arith))
-    (λ h. plain-of false true false false 1 0 (omega arith) (omega arith) (and-r _ _ h))
+    ⊎-elim (λ p. plain-of someRights false false false 1 1 (omega arith) (omega arith) (and-r _ _ p))
+    (λ h. ⊎-elim (plain-of noRights false false false 1 1 (omega arith) (omega arith))
+    (λ h. ⊎-elim (plain-of noRights false false false 0 0 (omega arith) (omega arith))
+    (λ h. ⊎-elim (plain-of saidRights false false true 2 0 (omega arith) (omega arith))
+    (λ h. ⊎-elim (plain-of noRights false true false 1 0 (omega arith) (omega arith))
+    (λ h. plain-of noRights true false false 1 0 (omega arith) (omega arith) (and-r _ _ h))
     (cond-case (eqb (r .group) groupL) h)) (cond-case (eqb (r .group) groupD) h)) (cond-case (eqb (r .group) groupN) h)) (cond-case (tupleGroup (r .group)) h))
     (cond-case (pairGroup (r .group)) h)
 

@@ -1,4 +1,7 @@
 pub mod Process
+pub mod Options
+pub mod Within
+pub mod BoxRows
 pub mod Scan
 pub mod Reader
 pub mod Spare
@@ -12,6 +15,7 @@ pub mod Undone
 pub mod Ready
 pub mod Choices
 pub mod Above
+pub mod Sandboxes
 pub mod Share
 pub mod Numeral
 pub mod Letters

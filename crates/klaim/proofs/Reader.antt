@@ -9,13 +9,14 @@ use lib.ListN.{length, length-map}
 use Rattle.sets.specs.Lists.{Elem, first, _&_, either, all, empty}
 use Rattle.sets.proofs.Lists.{and-l, and-r, and-i, not-no, neither-l, cond-at, eqb-eq, nleb-lt, ltb-lt, all-at, all-i, All-in, In-All, map-out, in-map, keep-out}
 use Rattle.sets.proofs.Tables.{length-table}
-use Rattle.klaim.specs.Limits.{tupleLimit, threadLimit, lineLimit}
+use Rattle.klaim.specs.Limits.{tupleLimit, threadLimit, lineLimit, boxesSize}
 use Rattle.klaim.specs.Process.{Line, ordered, tree, free}
-use Rattle.klaim.specs.Rows.{Row, groupT, groupL, groupQ, groupA, rowLine}
+use Rattle.klaim.specs.Rows.{Row, groupD, groupT, groupL, groupQ, groupA, rowLine}
 use Rattle.klaim.specs.Net.{Root, Net, Estimate}
 use Rattle.klaim.specs.Invariant.{allBelow, lineFits}
 use Rattle.klaim.specs.WellFormed.{NetOk, EstimateOk, ArrivalRead}
-use Rattle.klaim.specs.Reader.{Answer, refused, gives, andThen, Text, aNet, anEstimate, anArrival, inLimits, ofGroup, present, full, siteCount, readRows, inTurn, namedOnce, rootsClosed, whole, nth, gather, rootOf, linesOf, netOf, estimateOf, wholeNet, readNet, readEstimate, readArrival, World, readBoth}
+use Rattle.klaim.specs.Reader.{Answer, refused, gives, andThen, Text, aNet, anEstimate, anArrival, inLimits, ofGroup, present, full, siteCount, readRows, inTurn, namedOnce, rootsClosed, whole, nth, gather, rootOf, silentBoxes, linesOf, netOf, estimateOf, wholeNet, readNet, readEstimate, readArrival, World, readBoth}
+use Rattle.klaim.proofs.Above.{boxes-long}
 use Rattle.klaim.proofs.Scan.{RowOk, refused-none, rows-ok, rows-few, rows-distinct, net-size}
 
 module _ {A B : Type 0} where
@@ -91,14 +92,14 @@ module _ (t : Text) (bytes : List ℕ) {rows : List Row} (e : readRows t bytes �
 
 -- the net that the rows make
 net-rows : (bytes : List ℕ) (rows : List Row) → readRows aNet bytes ≡ gives rows → empty rows ≡ false → Whole (linesOf rows) (map (λ r. r .line) (netOf rows .roots)) → NetOk (netOf rows)
-unfolding netOf linesOf gather full either _&_ present siteCount
+unfolding netOf linesOf gather silentBoxes full either _&_ present siteCount
 net-rows bytes rows e s w =
     let n = net-size bytes e s in
     record {
       sites-some = n .0;
       sites-few = n .1;
       homes-long = length-table 1024 _;
-      boxes-long = length-table 1056 _;
+      boxes-long = boxes-long silentBoxes (ofGroup groupD rows) ∙ length-table boxesSize _;
       tuples-few = group-few aNet bytes e _ groupT tupleLimit (λ k h. nleb-lt _ k (neither-l _ _ h));
       tuples-fit = sites-fit aNet bytes e groupT;
       roots-few = group-few aNet bytes e _ groupL threadLimit (λ k h. nleb-lt _ k (neither-l _ _ h));

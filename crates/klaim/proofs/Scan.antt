@@ -4,16 +4,19 @@ use mathlib.Core.Path.{_≡_, refl, sym, ap, subst, _∙_}
 use mathlib.Core.Bool.{Bool, true, false, not, false≢true}
 use mathlib.Core.List.{List, [], _∷_, _++_, map, append-nil, map-append}
 use mathlib.Core.Option.{Option, none, some}
-use Prim.Native.Nat.{ℕ, suc, _+_, _<_, _≤_}
+use Prim.Native.Nat.{ℕ, suc, _+_, _*_, _<_, _≤_}
 use native.Mathlib.Omega.{arith}
 use lib.Dec.{eqb, leb, ltb}
 use lib.ListN.{length}
-use Rattle.sets.specs.Lists.{Elem, first, later, All, done, more, _&_, any, only, keep, empty, same, _⧺_}
+use Rattle.sets.specs.Lists.{Elem, first, later, All, done, more, _&_, all, any, only, keep, empty, same, _⧺_}
+use Rattle.sets.specs.Bits.{everyBit, everyRight, setCount}
+use Rattle.sets.proofs.Bits.{right-double}
 use Rattle.sets.proofs.Lists.{and-l, and-r, imp-e, not-no, neither-l, neither-r, cond-at, eqb-eq, eq-eqb, leb-le, nleb-lt, lt-ltb, all-at, all-i, ltb-lt, none-all, length-keep, All-append, All-turn, All-in, and-i, not-yes, any-none, any-snoc, same-eq, same-refl, map-out, keep-out, keep-snoc}
 use Rattle.klaim.specs.Limits.{siteLimit}
 use Rattle.klaim.specs.Process.{template, clash}
-use Rattle.klaim.specs.Rows.{Row, groupN, groupR, groupT, groupQ, groupA, groupE, comma, split, _>>=_, given, otherwise, rowN, rowPair, rowD, rowTuple, rowL, rowB, rowLine, rowQ, rowForm, rowOf, rowsFrom, rowsOf}
+use Rattle.klaim.specs.Rows.{Row, groupN, groupR, groupD, groupT, groupQ, groupA, groupE, comma, split, _>>=_, given, otherwise, rightOf, rightsAfter, rightsField, boxRightsField, towards, rowN, rowPair, rowD, rowTuple, rowL, rowB, rowLine, rowQ, rowForm, rowOf, rowsFrom, rowsOf}
 use Rattle.klaim.specs.Invariant.{allBelow, distinct}
+use Rattle.klaim.proofs.BoxRows.{BoxShaped}
 use Rattle.klaim.specs.Reader.{refused, gives, Text, aNet, anEstimate, anArrival, inLimits, ofGroup, full, over, headed, key, repeated, misplaced, sizeOf, siteCount, absent, Judged, bad, good, judge, scan, readRows, nth}
 
 -- what is read, if anything, has the property
@@ -27,6 +30,11 @@ module _ {A : Type 0} where
   given-holds true h = h
   given-holds false h = nothing
 
+  given-by : {P : A → Type 0} (b : Bool) {o : Option A} → (b ≡ true → Holds P o) → Holds P (given b o)
+  unfolding given
+  given-by true h = h refl
+  given-by false h = nothing
+
   otherwise-holds : {P : A → Type 0} {o p : Option A} → Holds P o → Holds P p → Holds P (otherwise o p)
   unfolding otherwise
   otherwise-holds nothing g = g
@@ -38,37 +46,92 @@ module _ {A B : Type 0} where
   then-holds none h = nothing
   then-holds (some x) h = h x
 
--- a Q row's sorts are those of its line; an A row has sites alone
+  then-by : {P : A → Type 0} {Q : B → Type 0} {o : Option A} {f : A → Option B} → Holds P o → ((x : A) → P x → Holds Q (f x)) → Holds Q (o >>= f)
+  unfolding _>>=_
+  then-by nothing h = nothing
+  then-by (holds p) h = h _ p
+
+-- a Q row's sorts are those of its line; an A row has sites alone; a D row has a sandbox, at most one site, and rights
 pub record Shaped (r : Row) : Type 0 where
   pub line-row : r .group ≡ groupQ → r ≡ rowLine (nth (r .lines) 0) (r .process)
   pub stand-row : r .group ≡ groupA → key r ≡ groupA ∷ (r .sites ⧺ [])
+  pub box-row : r .group ≡ groupD → BoxShaped r
+  pub box-rights : r .group ≡ groupD → r .rights ≤ everyRight
 
 not-group : (g h : ℕ) {B : Type 0} → eqb g h ≡ false → g ≡ h → B
 not-group g h t e = absurd (false≢true (sym t ∙ ap (λ (x : ℕ). eqb g x) (sym e) ∙ eq-eqb g))
 
 -- a row of another group
-other : {r : Row} → eqb (r .group) groupQ ≡ false → eqb (r .group) groupA ≡ false → Shaped r
-other {r} t s = record { line-row = not-group _ _ t; stand-row = not-group _ _ s }
+other : {r : Row} → eqb (r .group) groupQ ≡ false → eqb (r .group) groupA ≡ false → eqb (r .group) groupD ≡ false → Shaped r
+other {r} t s d = record { line-row = not-group _ _ t; stand-row = not-group _ _ s; box-row = not-group _ _ d; box-rights = not-group _ _ d }
+
+right-some : (b : ℕ) → Elem b everyBit → 1 ≤ b
+unfolding all _&_
+right-some b i = leb-le 1 b (all-at (leb 1) i refl)
+
+letter-right : (b : ℕ) → Holds (λ r. Elem r everyBit) (rightOf b)
+unfolding rightOf
+letter-right b =
+    otherwise-holds (given-holds _ (holds (first refl)))
+    (otherwise-holds (given-holds _ (holds (later (first refl))))
+    (otherwise-holds (given-holds _ (holds (later (later (first refl)))))
+    (otherwise-holds (given-holds _ (holds (later (later (later (first refl))))))
+    (given-holds _ (holds (later (later (later (later (first refl))))))))))
+
+-- the rights behind one of them, those of a field, those of a D row
+rights-behind : (last : ℕ) (f : List ℕ) → Elem last everyBit → Holds (λ m. 2 * last + m ≤ setCount) (rightsAfter last f)
+unfolding rightsAfter all _&_
+rights-behind last [] i = holds (leb-le (2 * last + 0) setCount (all-at (λ b. leb (2 * b + 0) setCount) i refl))
+rights-behind last (b ∷ f) i = then-by (letter-right b) (λ r j. then-by (rights-behind r f j) (λ m h. given-by _ (λ e. holds (omega (arith, right-double last r (later i) (later j) (ltb-lt last r e))))))
+
+low-rights : (m : ℕ) → leb m everyRight ≡ true → Holds (λ m. m ≤ everyRight) (some m)
+low-rights m h = holds (leb-le m everyRight h)
+
+rights-few : (f : List ℕ) → Holds (λ m. m ≤ everyRight) (rightsAfter 0 f)
+unfolding rightsAfter
+rights-few [] = low-rights _ refl
+rights-few (b ∷ f) = then-by (letter-right b) (λ r j. then-by (rights-behind r f j) (λ m h. given-by _ (λ e. holds (omega (arith, right-some r j)))))
+
+box-rights-few : (f : List ℕ) → Holds (λ m. m ≤ everyRight) (boxRightsField f)
+unfolding boxRightsField rightsField
+box-rights-few f = otherwise-holds (given-holds _ (low-rights _ refl)) (given-holds _ (rights-few f))
+
+-- the t of a D row
+towards-few : (f : List ℕ) → Holds (λ ts. length ts ≤ 1) (towards f)
+unfolding towards
+towards-few f = otherwise-holds (then-holds _ λ t. holds (omega arith)) (given-holds _ (holds (omega arith)))
+
+-- a D row
+box-shaped : (fs : List (List ℕ)) → Holds Shaped (rowD fs)
+unfolding rowD key _⧺_
+box-shaped fs =
+    given-holds _ (then-holds _ λ k. then-by (towards-few _) λ ts few. then-by (box-rights-few _) λ m low.
+    holds (record {
+      line-row = not-group _ _ refl;
+      stand-row = not-group _ _ refl;
+      box-row = λ e. record { boxes-one = refl; sites-few = few; key-is = refl };
+      box-rights = λ e. low;
+    }))
 
 -- each form gives such rows
 form-shaped : (fs : List (List ℕ)) → Holds Shaped (rowForm fs)
-unfolding rowForm rowN rowPair rowD rowTuple rowL rowB rowLine rowQ key _⧺_
+unfolding rowForm rowN rowPair rowTuple rowL rowB rowLine rowQ key _⧺_
 form-shaped fs =
-    otherwise-holds (given-holds _ (given-holds _ (then-holds _ λ n. holds (other refl refl))))
-    (otherwise-holds (given-holds _ (pair groupR refl refl))
-    (otherwise-holds (given-holds _ (given-holds _ (then-holds _ λ k. then-holds _ λ t. then-holds _ λ r. holds (other refl refl))))
-    (otherwise-holds (given-holds _ (tuple groupT refl))
-    (otherwise-holds (given-holds _ (given-holds _ (then-holds _ λ s. then-holds _ λ q. holds (other refl refl))))
-    (otherwise-holds (given-holds _ (then-holds _ λ q. then-holds _ λ l. holds (record { line-row = λ e. refl; stand-row = not-group _ _ refl })))
-    (otherwise-holds (given-holds _ (given-holds _ (then-holds _ λ u. then-holds _ λ s. holds (other refl refl))))
-    (otherwise-holds (given-holds _ (tuple groupA refl))
-    (given-holds _ (pair groupE refl refl)))))))))
+    otherwise-holds (given-holds _ (given-holds _ (then-holds _ λ n. holds (other refl refl refl))))
+    (otherwise-holds (given-holds _ (pair groupR refl refl refl))
+    (otherwise-holds (given-holds _ (box-shaped fs))
+    (otherwise-holds (given-holds _ (tuple groupT refl refl))
+    (otherwise-holds (given-holds _ (given-holds _ (then-holds _ λ s. then-holds _ λ q. holds (other refl refl refl))))
+    (otherwise-holds (given-holds _ (then-holds _ λ q. then-holds _ λ l. holds (record { line-row = λ e. refl; stand-row = not-group _ _ refl; box-row = not-group _ _ refl; box-rights = not-group _ _ refl })))
+    (otherwise-holds (given-holds _ (given-holds _ (then-holds _ λ u. then-holds _ λ s. holds (other refl refl refl))))
+    (otherwise-holds (given-holds _ (tuple groupA refl refl))
+    (given-holds _ (pair groupE refl refl refl)))))))))
   where
-    pair : (g : ℕ) → eqb g groupQ ≡ false → eqb g groupA ≡ false → Holds Shaped (rowPair g fs)
-    pair g e h = given-holds _ (then-holds _ λ s. then-holds _ λ t. then-holds _ λ r. holds (other e h))
+    pair : (g : ℕ) → eqb g groupQ ≡ false → eqb g groupA ≡ false → eqb g groupD ≡ false → Holds Shaped (rowPair g fs)
+    pair g e h d = given-holds _ (then-holds _ λ s. then-holds _ λ t. then-holds _ λ r. holds (other e h d))
 
-    tuple : (g : ℕ) → eqb g groupQ ≡ false → Holds Shaped (rowTuple g fs)
-    tuple g e = then-holds _ λ s. then-holds _ λ ts. holds (record { line-row = not-group _ _ e; stand-row = λ h. ap (λ (x : ℕ). x ∷ (s ∷ (ts ⧺ []))) h })
+    tuple : (g : ℕ) → eqb g groupQ ≡ false → eqb g groupD ≡ false → Holds Shaped (rowTuple g fs)
+    tuple g e d = then-holds _ λ s. then-holds _ λ ts. holds (record { line-row = not-group _ _ e; stand-row = λ h. ap (λ (x : ℕ). x ∷ (s ∷ (ts ⧺ []))) h; box-row = not-group _ _ d; box-rights = not-group _ _ d })
 
 rows-shaped : (ps : List (List ℕ)) → All (Holds Shaped) (rowsFrom ps)
 unfolding rowsFrom rowOf
@@ -178,19 +241,21 @@ distinct-snoc [] t d h = distinct-one t
 distinct-snoc (s ∷ ts) t d h =
     and-i (ap not (any-snoc (same s) ts t (not-yes _ (and-l _ _ d)) (h s (first refl)))) (distinct-snoc ts t (and-r _ _ d) (λ x i. h x (later i)))
 
+-- the key of a row that may repeat none stands in none above
+pub fresh-key : {t : Text} {above : List Row} {r : Row} → Fine t above r → eqb (r .group) groupQ ≡ false → any (λ b. same (key b) (key r)) above ≡ false
+unfolding repeated _&_
+fresh-key {t} {above} {r} f e = subst (λ (q : Bool). not q & any (λ b. same (key b) (key r)) above ≡ false) e (f .fresh)
+
 -- the sites of an A row stand in none above
 fresh-sites : (t : Text) (above : List Row) (r : Row) → All Shaped above → Fine t above r → r .group ≡ groupA → (s : List ℕ) → Elem s (map (λ b. b .sites) (ofGroup groupA above)) → same s (r .sites) ≡ false
-unfolding repeated ofGroup _&_
+unfolding ofGroup
 fresh-sites t above r h f g s i = go (map-out (λ b. b .sites) _ i)
   where
-    unlike : any (λ b. same (key b) (key r)) above ≡ false
-    unlike = subst (λ (x : ℕ). not (eqb x groupQ) & any (λ b. same (key b) (key r)) above ≡ false) g (f .fresh)
-
     alike : (b : Row) → Elem b above → b .group ≡ groupA → s ≡ b .sites → (x : Bool) → same s (r .sites) ≡ x → x ≡ false
     alike b j q p false e = refl
     alike b j q p true e =
         let k : key b ≡ key r = All-in h j .stand-row q ∙ ap (λ (ss : List ℕ). groupA ∷ (ss ⧺ [])) (sym p ∙ same-eq s (r .sites) e) ∙ sym (f .shaped .stand-row g) in
-        sym (subst (λ (ks : List ℕ). same ks (key r) ≡ true) (sym k) (same-refl (key r))) ∙ any-none (λ b. same (key b) (key r)) unlike j
+        sym (subst (λ (ks : List ℕ). same ks (key r) ≡ true) (sym k) (same-refl (key r))) ∙ any-none (λ b. same (key b) (key r)) (fresh-key f (subst (λ (x : ℕ). eqb x groupQ ≡ false) (sym g) refl)) j
 
     go : ((b : Row) × Elem b (keep (λ b. eqb (b .group) groupA) above) × (s ≡ b .sites)) → same s (r .sites) ≡ false
     go (b, k, p) = let (j, q) = keep-out (λ b. eqb (b .group) groupA) above k in alike b j (eqb-eq q) p _ refl

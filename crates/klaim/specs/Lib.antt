@@ -1,4 +1,4 @@
--- Document 01, in its order; No. 1, No. 7 and No. 8 in a comment are those requests of document 02.
+-- Document 01, in its order; No. 1, No. 3, No. 7 and No. 8 in a comment are those requests of document 02.
 pub mod Limits
 pub mod Process
 pub mod Rows
@@ -14,5 +14,6 @@ pub mod WellFormed
 pub mod Listing
 pub mod Rounding
 pub mod Spare
+pub mod Sandboxes
 pub mod Demand3
 pub mod Undone

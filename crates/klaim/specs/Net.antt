@@ -37,7 +37,7 @@ home N s t = getD (N .homes) (pairIndex s t) 0
 unfoldable pub box : Net → ℕ → ℕ → ℕ
 box N k t = getD (N .boxes) (boxIndex k t) 0
 
--- "A sandbox may also have a row for `self`": d(self)
+-- "A sandbox may also have a row for `self`": d(self); where it has none, the reader has put in all rights (No. 3)
 unfoldable pub boxSelf : Net → ℕ → ℕ
 boxSelf N k = getD (N .boxes) (boxIndex k selfPlace) 0
 

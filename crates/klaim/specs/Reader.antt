@@ -3,12 +3,12 @@
 use mathlib.Core.Bool.{Bool, true, not, cond}
 use mathlib.Core.List.{List, [], _∷_, _++_, map}
 use mathlib.Core.Option.{Option, none, some}
-use Prim.Native.Nat.{ℕ, suc, _+_, _^_}
+use Prim.Native.Nat.{ℕ, suc, _+_, _%_, _^_}
 use lib.Dec.{eqb, leb, ltb}
-use lib.ListN.{length, getD}
+use lib.ListN.{length, getD, set}
 use Rattle.sets.specs.Lists.{_&_, either, imp, all, any, keep, empty, table, below, same, count, concat, _⧺_}
-use Rattle.sets.specs.Bits.{grant, joins}
-use Rattle.klaim.specs.Limits.{siteLimit, varLimit, boxLimit, tupleLimit, threadLimit, lineLimit, policySize, pairIndex, boxesSize, boxIndex, selfPlace}
+use Rattle.sets.specs.Bits.{everyRight, grant, joins}
+use Rattle.klaim.specs.Limits.{siteLimit, varLimit, boxLimit, tupleLimit, threadLimit, lineLimit, policySize, pairIndex, boxWidth, boxesSize, boxIndex, selfPlace}
 use Rattle.klaim.specs.Process.{Line, children, template, clash, ordered, tree, free}
 use Rattle.klaim.specs.Rows.{Row, groupN, groupR, groupD, groupT, groupL, groupQ, groupB, groupA, groupE, rowsOf}
 use Rattle.klaim.specs.Net.{Root, Net, Estimate}
@@ -164,6 +164,16 @@ pairPlace r = pairIndex (nth (r .sites) 0) (nth (r .sites) 1)
 unfoldable pub boxPlace : Row → ℕ
 boxPlace r = boxIndex (nth (r .boxes) 0) (getD (r .sites) 0 selfPlace)
 
+-- the sandboxes where no D row speaks: towards a site nothing;
+-- No. 3: "a sandbox with no `self` row has all five rights for `self`"
+unfoldable pub silentBoxes : List ℕ
+silentBoxes = table boxesSize (λ i. grant (eqb (i % boxWidth) selfPlace) everyRight)
+
+-- each D row puts its set into its place, in place of what stands there; no two have one place (3)
+unfoldable pub putBoxes : List ℕ → List Row → List ℕ
+putBoxes t [] = t
+putBoxes t (r ∷ rs) = putBoxes (set t (boxPlace r) (r .rights)) rs
+
 -- "`L,s,q`"
 unfoldable pub rootOf : Row → Root
 rootOf r = record { site = nth (r .sites) 0; line = nth (r .lines) 0 }
@@ -181,7 +191,7 @@ unfoldable pub netOf : List Row → Net
 netOf rows = record {
   size = sizeOf rows;
   homes = gather policySize pairPlace (λ r. r .rights) (ofGroup groupR rows);
-  boxes = gather boxesSize boxPlace (λ r. r .rights) (ofGroup groupD rows);
+  boxes = putBoxes silentBoxes (ofGroup groupD rows);
   tuples = map (λ r. r .sites) (ofGroup groupT rows);
   roots = map rootOf (ofGroup groupL rows);
   lines = linesOf rows;

@@ -121,6 +121,10 @@ rightsAfter last (b ∷ f) = do
 unfoldable pub rightsField : List ℕ → Option ℕ
 rightsField f = given (not (empty f)) (rightsAfter 0 f)
 
+-- the rights of a D row; No. 3: "where `-` is the empty set, allowed in D rows only"
+unfoldable pub boxRightsField : List ℕ → Option ℕ
+boxRightsField f = otherwise (given (same f (text "-")) (some 0)) (rightsField f)
+
 -- a target, or a field of `out`: "site, `self`, variable"; No. 1: "`_` in `out` or as a target is still 1."
 unfoldable pub locField : List ℕ → Option Loc
 locField f =
@@ -222,12 +226,12 @@ rowPair g fs = sized 4 fs do
 unfoldable pub towards : List ℕ → Option (List ℕ)
 towards f = otherwise (siteField f >>= λ t. some (t ∷ [])) (given (isSelf f) (some []))
 
--- "`D,k,t,rights`"
+-- "`D,k,t,rights`"; No. 3: "write `D,k,self,-`"
 unfoldable pub rowD : List (List ℕ) → Option Row
 rowD fs = sized 4 fs do
   k ← number (at fs 1)
   t ← towards (at fs 2)
-  r ← rightsField (at fs 3)
+  r ← boxRightsField (at fs 3)
   some (record { group = groupD; size = 0; boxes = k ∷ []; vars = []; sites = t; lines = []; rights = r; process = Nil })
 
 -- "`T,s,f..`", and "`A,s,f..`": the site at which the tuple stands first

@@ -29,11 +29,6 @@ unfolding given _>>=_
 given-then true x h = refl
 given-then false x h = refl
 
-pub given-none : {A : Type 0} (t : Bool) → none ≡ given {A = A} t none
-unfolding given
-given-none true = refl
-given-none false = refl
-
 -- a scalar that stands for a number
 abbrev pub below : ℕ → Bool
 below n = ltb n noNumber

@@ -5,9 +5,9 @@ ghost use mathlib.Core.List.{List};
 ghost use Prim.Native.Nat.{ℕ, _+_, _-_, _<_};
 ghost use lib.ListN.{drop};
 ghost use Rattle.sets.specs.Lists.{_&_};
-ghost use Rattle.klaim.specs.Rows.{split, comma, at, number, siteField, varField, rightsField, lineNil, linePar, lineRep, lineOut, lineGet, lineEval, lineAccept, lineForm};
+ghost use Rattle.klaim.specs.Rows.{split, comma, at, number, siteField, varField, rightsField, boxRightsField, lineNil, linePar, lineRep, lineOut, lineGet, lineEval, lineAccept, lineForm};
 ghost use Rattle.text.specs.Pieces.{edgeLimit, Cut};
-ghost use Rattle.text.specs.Fields.{numberOf, rightsOf, upTo, Named, wordOf};
+ghost use Rattle.text.specs.Fields.{numberOf, rightsOf, boxRightsOf, upTo, Named, wordOf};
 ghost use Rattle.lines.specs.Lines.{fitAll, FourAt, Said, getKind, lineView, lineGood};
 use text::ACCEPT;
 use text::EDGES;
@@ -55,6 +55,14 @@ pub fn rights_at(row: &[u8], edges: &[usize; EDGES], n: usize, k: usize) -> u8
     ensures { λ r. ⌜ rightsOf r ≡ rightsField (at (split comma (now (row .entry))) k) ⌝ }
 {
     text::rights(text::field(row, edges, n, k))
+}
+
+pub fn box_rights_at(row: &[u8], edges: &[usize; EDGES], n: usize, k: usize) -> u8
+    requires { ⌜ Cut (now row) (now edges) n ⌝ }
+    requires { ⌜ k + 1 < edgeLimit ⌝ }
+    ensures { λ r. ⌜ boxRightsOf r ≡ boxRightsField (at (split comma (now (row .entry))) k) ⌝ }
+{
+    text::box_rights(text::field(row, edges, n, k))
 }
 
 pub fn name_at(row: &[u8], edges: &[usize; EDGES], n: usize, k: usize) -> Name

@@ -9,13 +9,15 @@ use native.Mathlib.Decide.{ℕ-discrete}
 use lib.Dec.{eqb}
 use lib.ListN.{length, replicate, length-replicate}
 use borrow.Author.Tests.{eq-eqb, ne-eqb}
-use Rattle.sets.specs.Lists.{done, keep, empty, table, tableFrom, below, same}
+use Rattle.sets.specs.Lists.{All, done, keep, empty, table, tableFrom, below, same}
 use Rattle.sets.proofs.Tables.{length-table}
 use Rattle.klaim.specs.Process.{Line}
-use Rattle.klaim.specs.Rows.{Row, groupR, groupD, groupT}
+use Rattle.klaim.specs.Limits.{boxesSize}
+use Rattle.klaim.specs.Rows.{Row, groupR, groupT}
 use Rattle.klaim.specs.Net as Spec
-use Rattle.klaim.specs.Reader.{aNet, Answer, refused, gives, andThen, ofGroup, judge, readRows, sizeOf, whole, numbersOf, linesOf, netOf, wholeNet, readNet}
+use Rattle.klaim.specs.Reader.{aNet, Answer, refused, gives, andThen, ofGroup, judge, readRows, sizeOf, whole, putBoxes, numbersOf, linesOf, netOf, wholeNet, readNet}
 use Rattle.klaim.proofs.Above.{last-none}
+use Rattle.text.specs.Fields.{unsaid}
 use Rattle.tables.specs.View.{rowsView, rootsView, linesView, netView}
 use Rattle.tables.specs.declared.Net.{Net}
 use Rattle.forms.specs.declared.RowData.{RowData}
@@ -27,13 +29,15 @@ use Rattle.scan.specs.Numbers.{judgedBy}
 use Rattle.scan.specs.Tallies.{countedOf, startOf}
 use Rattle.scan.proofs.Progress.{progress-none, progress-more, progress-bad, progress-end, progress-refused, going-on, gather-none}
 use Rattle.repeats.proofs.Rows.{as-kept}
-use Rattle.repeats.specs.Kept.{KeysAre}
+use Rattle.repeats.specs.Kept.{Kept, KeysAre, unsaidBoxes}
 use Rattle.nets.specs.declared.Refusal.{Refusal}
 use Rattle.nets.specs.Rows.{NetTables, NetTally, Room, Passed}
+use Rattle.nets.specs.Defaults.{withOwn, cleared}
 use Rattle.whole.specs.Number.{wholeNumber}
 use Rattle.whole.proofs.Number.{whole-is}
 use Rattle.nets.specs.Read.{netAnswer, refusalOf}
 use Rattle.nets.proofs.Rows.{tally-more, room-more, empty-is, keys-count}
+use Rattle.nets.proofs.Defaults.{defaults-put}
 
 -- what is kept of the rows above
 abbrev pub Above : List ℕ → List ℕ → List ℕ → List ℕ → List ℕ → List ℕ → Tally → List Row → Type 0
@@ -56,11 +60,11 @@ pub record Reading (s homes boxes tuples roots lines keys : List ℕ) (t : Tally
   pub counted : t .rows ≤ at
   pub long : Long homes boxes tuples roots lines keys
 
-tables-none : NetTables [] (replicate {A = ℕ} 1024 0) (replicate {A = ℕ} 1056 0) (replicate {A = ℕ} 1536 0) 0 (replicate {A = ℕ} 128 0) 0 (replicate {A = ℕ} 2560 0) 0
-unfolding rowsView rootsView linesView linesOf ofGroup keep table tableFrom
+tables-none : NetTables [] (replicate {A = ℕ} 1024 0) unsaidBoxes (replicate {A = ℕ} 1536 0) 0 (replicate {A = ℕ} 128 0) 0 (replicate {A = ℕ} 2560 0) 0
+unfolding rowsView rootsView linesView linesOf ofGroup keep putBoxes table tableFrom
 tables-none = record {
   homesIs = gather-none 1024 _ _ groupR;
-  boxesIs = gather-none 1056 _ _ groupD;
+  boxesIs = refl;
   tuplesIs = refl;
   rootsIs = refl;
   linesIs = refl;
@@ -77,16 +81,16 @@ keys-none : KeysAre groupT [] (replicate {A = ℕ} 256 0) 0
 unfolding ofGroup keep
 keys-none = record { is = refl }
 
-pub reading-start : (s : List ℕ) (t : Tally) → t ≡ startOf 0 → Reading s (replicate {A = ℕ} 1024 0) (replicate {A = ℕ} 1056 0) (replicate {A = ℕ} 1536 0) (replicate {A = ℕ} 128 0) (replicate {A = ℕ} 2560 0) (replicate {A = ℕ} 256 0) t 0
+pub reading-start : (s : List ℕ) (t : Tally) → t ≡ startOf 0 → Reading s (replicate {A = ℕ} 1024 0) unsaidBoxes (replicate {A = ℕ} 1536 0) (replicate {A = ℕ} 128 0) (replicate {A = ℕ} 2560 0) (replicate {A = ℕ} 256 0) t 0
 unfolding startOf
-reading-start s t e = subst (λ (t : Tally). Reading s (replicate {A = ℕ} 1024 0) (replicate {A = ℕ} 1056 0) (replicate {A = ℕ} 1536 0) (replicate {A = ℕ} 128 0) (replicate {A = ℕ} 2560 0) (replicate {A = ℕ} 256 0) t 0) (sym e) (record {
+reading-start s t e = subst (λ (t : Tally). Reading s (replicate {A = ℕ} 1024 0) unsaidBoxes (replicate {A = ℕ} 1536 0) (replicate {A = ℕ} 128 0) (replicate {A = ℕ} 2560 0) (replicate {A = ℕ} 256 0) t 0) (sym e) (record {
   progress = progress-none aNet s (tables-none, tally-none, keys-none);
   room = record { tuplesFew = omega arith; rootsFew = omega arith; linesFew = omega arith; sizeFew = omega arith };
   running = λ h. refl;
   counted = omega arith;
   long = record {
     homesLong = length-replicate {A = ℕ} 1024 0;
-    boxesLong = length-replicate {A = ℕ} 1056 0;
+    boxesLong = length-replicate {A = ℕ} boxesSize unsaid;
     tuplesLong = length-replicate {A = ℕ} 1536 0;
     rootsLong = length-replicate {A = ℕ} 128 0;
     linesLong = length-replicate {A = ℕ} 2560 0;
@@ -128,9 +132,9 @@ module _ (s homes boxes tuples roots lines keys : List ℕ) (t : Tally) (at next
       }
 
 -- the tables are the net that the rows say
-tables-say : (size : ℕ) {above : List Row} {homes boxes tuples roots lines : List ℕ} {nt nr nl : ℕ} → sizeOf above ≡ size → NetTables above homes boxes tuples nt roots nr lines nl → netView (record { size = size; homes = homes; boxes = boxes; tuples = tuples; ntuples = nt; roots = roots; nroots = nr; lines = lines; nlines = nl }) ≡ netOf above
+tables-say : (size : ℕ) {above : List Row} {homes boxes tuples roots lines : List ℕ} {nt nr nl : ℕ} → sizeOf above ≡ size → All Kept above → NetTables above homes boxes tuples nt roots nr lines nl → netView (record { size = size; homes = homes; boxes = cleared (withOwn boxes); tuples = tuples; ntuples = nt; roots = roots; nroots = nr; lines = lines; nlines = nl }) ≡ netOf above
 unfolding netView netOf
-tables-say size e T = rw (sym e, T .homesIs, T .boxesIs, T .tuplesIs, T .rootsIs, T .linesIs)
+tables-say size e K T = rw (sym e, T .homesIs, ap (λ (t : List ℕ). cleared (withOwn t)) (T .boxesIs) ∙ defaults-put K, T .tuplesIs, T .rootsIs, T .linesIs)
 
 -- what refuses the net, one by one
 module _ (t : Tally) (ls : List Line) (roots : List ℕ) where
@@ -156,10 +160,10 @@ module _ (t : Tally) {homes boxes tuples roots lines keys : List ℕ} (above : L
   unfolding linesView
   turn-same = ap (λ (k : ℕ). same (numbersOf above) (below k)) (sym (ap length (K .0 .linesIs)) ∙ length-table (t .lines) _) ∙ K .1 .turn
 
-  whole-net : empty above ≡ false → (w : ℕ) → w ≡ wholeNumber (t .turn) (linesView (t .lines) lines) (map (λ x. x .line) (rootsView (t .roots) roots)) → cond (eqb w 0) (gives (netView (record { size = t .size; homes = homes; boxes = boxes; tuples = tuples; ntuples = t .tuples; roots = roots; nroots = t .roots; lines = lines; nlines = t .lines }))) (refused w 0) ≡ wholeNet above
+  whole-net : empty above ≡ false → (w : ℕ) → w ≡ wholeNumber (t .turn) (linesView (t .lines) lines) (map (λ x. x .line) (rootsView (t .roots) roots)) → cond (eqb w 0) (gives (netView (record { size = t .size; homes = homes; boxes = cleared (withOwn boxes); tuples = tuples; ntuples = t .tuples; roots = roots; nroots = t .roots; lines = lines; nlines = t .lines }))) (refused w 0) ≡ wholeNet above
   unfolding wholeNet
   whole-net e w q =
-      ap₂ (λ (w : ℕ) (N : Spec.Net). cond (eqb w 0) (gives N) (refused w 0)) (q ∙ number-same) (tables-say (t .size) (K .1 .sizeIs) (K .0))
+      ap₂ (λ (w : ℕ) (N : Spec.Net). cond (eqb w 0) (gives N) (refused w 0)) (q ∙ number-same) (tables-say (t .size) (K .1 .sizeIs) (K .1 .kept) (K .0))
       ∙ sym (whole-is (t .turn) (numbersOf above) (linesOf above) (map (λ x. x .line) (netOf above .roots)) (netOf above) turn-same)
       ∙ ap (λ (b : Bool). cond b (refused 3 1) (whole (numbersOf above) (linesOf above) (map (λ r. r .line) (netOf above .roots)) (netOf above))) (sym e)
 
@@ -169,12 +173,12 @@ unfolding wholeNet
 empty-net above e = rw e
 
 -- all rows are read: the answer
-pub reading-end : (s homes boxes tuples roots lines keys : List ℕ) (t : Tally) (at : ℕ) → Reading s homes boxes tuples roots lines keys t at → length s ≤ at → (told : Refusal) → told ≡ refusalOf t (linesView (t .lines) lines) (map (λ x. x .line) (rootsView (t .roots) roots)) → netAnswer (record { number = told .number; row = told .row; net = record { size = t .size; homes = homes; boxes = boxes; tuples = tuples; ntuples = t .tuples; roots = roots; nroots = t .roots; lines = lines; nlines = t .lines } }) ≡ readNet s
+pub reading-end : (s homes boxes tuples roots lines keys : List ℕ) (t : Tally) (at : ℕ) → Reading s homes boxes tuples roots lines keys t at → length s ≤ at → (told : Refusal) → told ≡ refusalOf t (linesView (t .lines) lines) (map (λ x. x .line) (rootsView (t .roots) roots)) → {sandboxes : List ℕ} → sandboxes ≡ cleared (withOwn boxes) → netAnswer (record { number = told .number; row = told .row; net = record { size = t .size; homes = homes; boxes = sandboxes; tuples = tuples; ntuples = t .tuples; roots = roots; nroots = t .roots; lines = lines; nlines = t .lines } }) ≡ readNet s
 unfolding netAnswer readNet andThen
-reading-end s homes boxes tuples roots lines keys t at R h told q = subst (λ (told : Refusal). cond (eqb (told .number) 0) (gives (netView net)) (refused (told .number) (told .row)) ≡ andThen (readRows aNet s) wholeNet) (sym q) (go (ℕ-discrete (t .number) 0))
+reading-end s homes boxes tuples roots lines keys t at R h told q d = rw (d, q) (go (ℕ-discrete (t .number) 0))
   where
     net : Net
-    net = record { size = t .size; homes = homes; boxes = boxes; tuples = tuples; ntuples = t .tuples; roots = roots; nroots = t .roots; lines = lines; nlines = t .lines }
+    net = record { size = t .size; homes = homes; boxes = cleared (withOwn boxes); tuples = tuples; ntuples = t .tuples; roots = roots; nroots = t .roots; lines = lines; nlines = t .lines }
 
     answer : Refusal → Answer Spec.Net
     answer told = cond (eqb (told .number) 0) (gives (netView net)) (refused (told .number) (told .row))

@@ -17,7 +17,7 @@ use Rattle.sets.proofs.Lists.{and-l, and-r, imp-e, eqb-eq, leb-le, nleb-lt, All
 use Rattle.sets.proofs.Tables.{length-table}
 use Rattle.klaim.specs.Limits.{siteLimit, tupleLimit, threadLimit, lineLimit}
 use Rattle.klaim.specs.Rows.{Row, groupN, groupR, groupD, groupT, groupL, groupQ, groupA}
-use Rattle.klaim.specs.Reader.{aNet, judge, key, repeated, ofGroup, present, full, headed, own, inOrder, sizeOf, siteCount, gather, pairPlace, boxPlace, rootOf, numbersOf, linesOf}
+use Rattle.klaim.specs.Reader.{aNet, judge, key, repeated, ofGroup, present, full, headed, own, inOrder, sizeOf, siteCount, gather, pairPlace, putBoxes, rootOf, numbersOf, linesOf}
 use Rattle.klaim.proofs.Above.{group-other, map-other, map-own, last-snoc}
 use Rattle.tables.specs.View.{rowsView, rootsView, linesView}
 use Rattle.forms.specs.declared.RowData.{RowData}
@@ -30,7 +30,7 @@ use Rattle.scan.specs.Tallies as Tallies
 use Rattle.scan.specs.Numbers.{earlyOf, lateOf, numberOf, judgedBy}
 use Rattle.scan.proofs.Numbers.{formed, not-formed}
 use Rattle.scan.proofs.Tallies.{turn-own, turn-other, group-none, size-row, own-row}
-use Rattle.repeats.specs.Kept.{Kept}
+use Rattle.repeats.specs.Kept.{Kept, unsaidBoxes}
 use Rattle.nets.specs.Rows.{NetTables, NetTally, Room, fullOf, placedOf, Passed}
 
 -- the tables, with a row more that stands in one of them
@@ -38,8 +38,8 @@ module _ {above : List Row} {homes boxes tuples roots lines : List ℕ} {nt nr n
   homes-other : eqb (r .group) groupR ≡ false → homes ≡ gather 1024 pairPlace (λ r. r .rights) (ofGroup groupR (above ++ (r ∷ [])))
   homes-other e = T .homesIs ∙ sym (ap (gather 1024 pairPlace (λ r. r .rights)) (group-other groupR above r e))
 
-  boxes-other : eqb (r .group) groupD ≡ false → boxes ≡ gather 1056 boxPlace (λ r. r .rights) (ofGroup groupD (above ++ (r ∷ [])))
-  boxes-other e = T .boxesIs ∙ sym (ap (gather 1056 boxPlace (λ r. r .rights)) (group-other groupD above r e))
+  boxes-other : eqb (r .group) groupD ≡ false → boxes ≡ putBoxes unsaidBoxes (ofGroup groupD (above ++ (r ∷ [])))
+  boxes-other e = T .boxesIs ∙ sym (ap (putBoxes unsaidBoxes) (group-other groupD above r e))
 
   tuples-other : eqb (r .group) groupT ≡ false → rowsView nt tuples ≡ map (λ r. r .sites) (ofGroup groupT (above ++ (r ∷ [])))
   tuples-other e = T .tuplesIs ∙ sym (map-other (λ r. r .sites) groupT above r e)
@@ -75,7 +75,7 @@ module _ {above : List Row} {homes boxes tuples roots lines : List ℕ} {nt nr n
     linesLong = T .linesLong;
   }
 
-  pub tables-d : {new : List ℕ} → r .group ≡ groupD → new ≡ gather 1056 boxPlace (λ r. r .rights) (ofGroup groupD (above ++ (r ∷ []))) → NetTables (above ++ (r ∷ [])) homes new tuples nt roots nr lines nl
+  pub tables-d : {new : List ℕ} → r .group ≡ groupD → new ≡ putBoxes unsaidBoxes (ofGroup groupD (above ++ (r ∷ []))) → NetTables (above ++ (r ∷ [])) homes new tuples nt roots nr lines nl
   tables-d e h = record {
     homesIs = homes-other (rw e);
     boxesIs = h;

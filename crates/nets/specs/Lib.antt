@@ -1,2 +1,3 @@
 pub mod Rows
+pub mod Defaults
 pub mod Read

@@ -9,17 +9,17 @@ use lib.ListN.{length}
 use Rattle.sets.specs.Lists.{All, _&_, imp, below, same}
 use Rattle.klaim.specs.Limits.{siteLimit, tupleLimit, threadLimit, lineLimit}
 use Rattle.klaim.specs.Rows.{Row, groupN, groupR, groupD, groupT, groupL, groupQ}
-use Rattle.klaim.specs.Reader.{aNet, inLimits, ofGroup, own, inOrder, sizeOf, gather, pairPlace, boxPlace, rootOf, numbersOf, linesOf}
+use Rattle.klaim.specs.Reader.{aNet, inLimits, ofGroup, own, inOrder, sizeOf, gather, pairPlace, putBoxes, rootOf, numbersOf, linesOf}
 use Rattle.tables.specs.View.{rowsView, rootsView, linesView}
 use Rattle.forms.specs.declared.RowData.{RowData}
 use Rattle.forms.specs.Forms.{rowData}
 use Rattle.scan.specs.declared.Tally.{Tally}
-use Rattle.repeats.specs.Kept.{Kept}
+use Rattle.repeats.specs.Kept.{Kept, unsaidBoxes}
 
 -- the tables hold the rows above: nt tuples, nr roots, nl lines
 pub record NetTables (above : List Row) (homes boxes tuples : List ℕ) (nt : ℕ) (roots : List ℕ) (nr : ℕ) (lines : List ℕ) (nl : ℕ) : Type 0 where
   pub homesIs : homes ≡ gather 1024 pairPlace (λ r. r .rights) (ofGroup groupR above)
-  pub boxesIs : boxes ≡ gather 1056 boxPlace (λ r. r .rights) (ofGroup groupD above)
+  pub boxesIs : boxes ≡ putBoxes unsaidBoxes (ofGroup groupD above)
   pub tuplesIs : rowsView nt tuples ≡ map (λ r. r .sites) (ofGroup groupT above)
   pub rootsIs : rootsView nr roots ≡ map rootOf (ofGroup groupL above)
   pub linesIs : linesView nl lines ≡ linesOf above

@@ -4,6 +4,7 @@ ghost use mathlib.Core.Bool.{true};
 ghost use mathlib.Core.List.{List, [], _∷_, _++_, map};
 ghost use Prim.Native.Nat.{ℕ, _<_};
 ghost use lib.ListN.{length};
+ghost use Rattle.klaim.specs.Limits.{boxesSize};
 ghost use Rattle.klaim.specs.Rows.{Row, groupT};
 ghost use Rattle.klaim.specs.Reader.{aNet, judge, inLimits, repeated, readNet};
 ghost use Rattle.forms.specs.Forms.{rowView, rowData, rowGood};
@@ -12,11 +13,17 @@ ghost use Rattle.scan.specs.Tallies.{countedOf};
 ghost use Rattle.tables.specs.View.{linesView, rootsView};
 ghost use Rattle.repeats.specs.Kept.{KeysAre};
 ghost use Rattle.nets.specs.Rows.{NetTables, NetTally, Room, fullOf, placedOf, Passed};
+ghost use Rattle.nets.specs.Defaults.{ownOf, withOwn, cleared};
 ghost use Rattle.nets.specs.Read.{netAnswer, refusalOf};
 use forms::RowData;
 use scan::Tally;
+use sets::EVERY;
+use tables::BOX;
+use tables::BOXES;
 use tables::LINES;
 use tables::Net;
+use tables::OWN;
+use tables::SANDBOXES;
 use tables::THREADS;
 use tables::TUPLES;
 use text::GROUP_D;
@@ -25,6 +32,7 @@ use text::GROUP_N;
 use text::GROUP_Q;
 use text::GROUP_R;
 use text::GROUP_T;
+use text::UNSAID;
 
 // A net, or the number of a refusal and its row; the number is 0 if there is none.
 pub struct NetRead {
@@ -178,12 +186,56 @@ fn refused_by(tally: Tally, lines: &[u8; 2560], roots: &[u8; 128]) -> Refusal
     }
 }
 
+// What a sandbox has for `self`: the rights that a row says, or else every right.
+fn own_rights(said: u8) -> u8
+    ensures { λ r. ⌜ r ≡ ownOf said ⌝ }
+{
+    if said < UNSAID {
+        return said;
+    }
+    EVERY
+}
+
+// The rights of each sandbox for `self`.
+fn put_own(boxes: &mut [u8; BOXES])
+    requires { ⌜ length (now boxes) ≡ boxesSize ⌝ }
+    ensures { λ r. ⌜ now (boxes .exit) ≡ withOwn (now (boxes .entry)) ⌝ }
+{
+    let mut k: usize = 0;
+    while k < SANDBOXES {
+        let at = BOX * k + OWN;
+        boxes[at] = own_rights(boxes[at]);
+        k += 1;
+    }
+}
+
+// No rights where no row speaks: `UNSAID` becomes 0, what is less stays.
+fn clear_unsaid(boxes: &mut [u8; BOXES])
+    requires { ⌜ length (now boxes) ≡ boxesSize ⌝ }
+    ensures { λ r. ⌜ now (boxes .exit) ≡ cleared (now (boxes .entry)) ⌝ }
+{
+    let mut i: usize = 0;
+    while i < BOXES {
+        boxes[i] = boxes[i] % UNSAID;
+        i += 1;
+    }
+}
+
+// What sandboxes have where no row speaks, when all rows are read.
+fn fill_unsaid(boxes: &mut [u8; BOXES])
+    requires { ⌜ length (now boxes) ≡ boxesSize ⌝ }
+    ensures { λ r. ⌜ now (boxes .exit) ≡ cleared (withOwn (now (boxes .entry))) ⌝ }
+{
+    put_own(boxes);
+    clear_unsaid(boxes);
+}
+
 // A net from its bytes.
 pub fn read_net(s: &[u8]) -> NetRead
     ensures { λ r. ⌜ netAnswer r ≡ readNet (now (s .entry)) ⌝ }
 {
     let mut homes = [0u8; 1024];
-    let mut boxes = [0u8; 1056];
+    let mut boxes = [UNSAID; BOXES];
     let mut tuples = [0u8; 1536];
     let mut keys = [0u32; 256];
     let mut roots = [0u8; 128];
@@ -218,6 +270,7 @@ pub fn read_net(s: &[u8]) -> NetRead
     let ntuples = tally.tuples;
     let nroots = tally.roots;
     let nlines = tally.lines;
+    fill_unsaid(&mut boxes);
     let net = Net {
         size,
         homes,

@@ -7,26 +7,28 @@ use mathlib.Core.List.{List, [], _∷_, map}
 use Prim.Native.Nat.{ℕ, _+_, _*_, _<_, _^_}
 use native.Mathlib.Omega.{arith}
 use lib.Dec.{eqb, ltb}
-use lib.ListN.{getD}
-use borrow.Author.Tests.{ltb-true, ne-eqb}
-use Rattle.sets.specs.Lists.{All, _&_, any, all, only, same}
+use lib.ListN.{getD, length-replicate, getD-replicate}
+use borrow.Author.Tests.{ltb-true}
+use Rattle.sets.specs.Lists.{All, _&_, any, same}
 use Rattle.sets.specs.Bits.{mem, grant, joins}
 use Rattle.sets.proofs.Lists.{iff, and-l, eqb-eq, eq-eqb, In-All, All-in, All-turn, keep-out, and-true, and-yes}
 use Rattle.sets.proofs.Tables.{getD-table}
+use Rattle.klaim.specs.Limits.{boxesSize}
 use Rattle.klaim.specs.Rows.{Row, groupR, groupD, groupT, groupL, groupQ, groupB, groupA, groupE}
 use Rattle.klaim.specs.Net.{Root}
-use Rattle.klaim.specs.Reader.{inLimits, ofGroup, key, repeated, nth, gather, pairPlace, boxPlace, rootOf}
-use Rattle.text.specs.declared.Name.{Name}
-use Rattle.text.specs.Fields.{sitesTo}
+use Rattle.klaim.specs.Reader.{inLimits, ofGroup, key, repeated, nth, gather, pairPlace, boxPlace, putBoxes, rootOf}
+use Rattle.klaim.proofs.Within.{within}
+use Rattle.klaim.proofs.BoxRows.{place-low, places-keys}
+use Rattle.klaim.proofs.Above.{taken, boxes-mark}
+use Rattle.text.specs.Fields.{unsaid}
 use Rattle.forms.specs.declared.RowData.{RowData}
 use Rattle.forms.specs.Forms.{rowData, rowGood, pairGroup, tupleGroup}
 use Rattle.forms.proofs.RowForms.{pair-case, tuple-case, pair-some, tuple-some}
 use Rattle.judge.proofs.Limits.{group-is}
-use Rattle.stores.proofs.Shapes.{within}
-use Rattle.repeats.specs.Kept.{Kept, rootSame, tupleKey}
+use Rattle.repeats.specs.Kept.{Kept, unsaidBoxes, rootSame, tupleKey}
 use Rattle.repeats.proofs.Marks.{any-keep, any-map, joins-some, joins-mem, two-same}
 use Rattle.repeats.proofs.Keys.{key-same}
-use Rattle.repeats.proofs.Rows.{PairRow, BoxRow, BoundRow, RootRow, pair-row, box-row, bound-row, root-row, tuple-row, kept-pair, kept-box, kept-bound, kept-root, kept-tuple}
+use Rattle.repeats.proofs.Rows.{PairRow, BoundRow, RootRow, pair-row, box-row, bound-row, root-row, tuple-row, kept-pair, kept-box, kept-bound, kept-root, kept-tuple}
 
 -- rows of two groups have two keys
 key-split : (b r : Row) (g : ℕ) → r .group ≡ g → (p : Bool) → (b .group ≡ g → same (key b) (key r) ≡ p) → same (key b) (key r) ≡ (eqb (b .group) g & p)
@@ -104,31 +106,10 @@ module _ (row : RowData) (G : rowGood row ≡ true) (L : inLimits (rowData row) 
       ap₂ (λ (l : List ℕ) (i : ℕ). not (eqb (getD l i 0) 0)) e a
       ∙ place-seen (rowData row) (row .group) g (pair-no-q (row .group) P) pairPlace (λ b k q. (pair-alike (kept-pair k (of b k q)) R (q ∙ sym g), kept-pair k (of b k q) .some)) 1024 (omega (arith, R .placed, R .s-low, R .t-low)) K
 
--- D rows: `self` stands behind the sites
-toward-same : (a b : Bool) (m n : ℕ) → all (λ s. ltb s 32) (only a m) ≡ true → all (λ s. ltb s 32) (only b n) ≡ true → same (only a m) (only b n) ≡ eqb (getD (only a m) 0 32) (getD (only b n) 0 32)
-unfolding all only same
-toward-same true true m n h l = and-true (eqb m n)
-toward-same true false m n h l = let g = ltb-true m 32 (and-l _ _ h) in sym (ne-eqb m 32 (λ e. omega arith))
-toward-same false true m n h l = let g = ltb-true n 32 (and-l _ _ l) in sym (ne-eqb 32 n (λ e. omega arith))
-toward-same false false m n h l = refl
-
-to-same : (m n : Name) → all (λ s. ltb s 32) (sitesTo m) ≡ true → all (λ s. ltb s 32) (sitesTo n) ≡ true → same (sitesTo m) (sitesTo n) ≡ eqb (getD (sitesTo m) 0 32) (getD (sitesTo n) 0 32)
-unfolding sitesTo
-to-same m n h l = toward-same (eqb (m .kind) 1) (eqb (n .kind) 1) (m .number) (n .number) h l
-
-box-keys : (a c : ℕ) (ks ls : List ℕ) → same (a ∷ ks) (c ∷ ls) ≡ (eqb a c & same ks ls)
-unfolding same
-box-keys a c ks ls = refl
-
-box-alike : {k l : ℕ} {m n : Name} {b r : Row} → BoxRow k m b → BoxRow l n r → b .group ≡ r .group → same (key b) (key r) ≡ eqb (boxPlace b) (boxPlace r)
-box-alike {k} {l} {m} {n} {b} {r} B R e =
-    let x = B .t-most in
-    let y = R .t-most in
-    keys-same b r (k ∷ sitesTo m) (l ∷ sitesTo n) (B .keyed) (R .keyed) e
-    ∙ box-keys k l (sitesTo m) (sitesTo n)
-    ∙ ap (λ (x : Bool). eqb k l & x) (to-same m n (B .t-low) (R .t-low))
-    ∙ two-same (λ x y. 33 * x + y) k (getD (sitesTo m) 0 32) l (getD (sitesTo n) 0 32) (λ q. (omega arith, omega arith))
-    ∙ sym (ap₂ eqb (B .placed) (R .placed))
+-- a place of the sandboxes' table that says rights
+pub box-said : (i : ℕ) → i < boxesSize → {above : List Row} → All Kept above → ltb (getD (putBoxes unsaidBoxes (ofGroup groupD above)) i 0) unsaid ≡ taken i (ofGroup groupD above)
+box-said i h {above} K =
+    boxes-mark i unsaid unsaidBoxes (ofGroup groupD above) (omega (arith, length-replicate {A = ℕ} boxesSize unsaid)) (omega (arith, getD-replicate {A = ℕ} boxesSize i unsaid 0 h)) (All-turn (λ b k. kept-box (k .0) (k .1) .said) (kept-of groupD K))
 
 -- B rows
 bound-alike : {u s v t : ℕ} {b r : Row} → BoundRow u s b → BoundRow v t r → b .group ≡ r .group → same (key b) (key r) ≡ (eqb (nth (b .vars) 0) (nth (r .vars) 0) & eqb (nth (b .sites) 0) (nth (r .sites) 0))
@@ -138,12 +119,13 @@ bound-alike {u} {s} {v} {t} {b} {r} B R e =
     ∙ sym (ap₂ _&_ (ap₂ eqb (B .var-is) (R .var-is)) (ap₂ eqb (B .site-is) (R .site-is)))
 
 module _ (row : RowData) (G : rowGood row ≡ true) (L : inLimits (rowData row) ≡ true) where
-  pub box-seen : row .group ≡ groupD → (at : ℕ) → at ≡ boxPlace (rowData row) → (t : List ℕ) {above : List Row} → All Kept above → t ≡ gather 1056 boxPlace (λ x. x .rights) (ofGroup groupD above) → not (eqb (getD t at 0) 0) ≡ repeated above (rowData row)
+  pub box-seen : row .group ≡ groupD → (at : ℕ) → at ≡ boxPlace (rowData row) → (t : List ℕ) {above : List Row} → All Kept above → t ≡ putBoxes unsaidBoxes (ofGroup groupD above) → ltb (getD t at 0) unsaid ≡ repeated above (rowData row)
   box-seen P at a t {above} K e =
       let R = box-row row G L P in
       let g = group-is row G (omega arith) ∙ P in
-      ap₂ (λ (l : List ℕ) (i : ℕ). not (eqb (getD l i 0) 0)) e a
-      ∙ place-seen (rowData row) groupD g refl boxPlace (λ b k q. (box-alike (kept-box k q) R (q ∙ sym g), kept-box k q .some)) 1056 (omega (arith, R .placed, R .k-low, R .t-most)) K
+      ap₂ (λ (l : List ℕ) (i : ℕ). ltb (getD l i 0) unsaid) e a
+      ∙ box-said (boxPlace (rowData row)) (place-low (rowData row) (R .low) (R .shaped)) K
+      ∙ sym (repeat-any (rowData row) groupD g refl (λ b. eqb (boxPlace b) (boxPlace (rowData row))) (λ b k q. let B = kept-box k q in places-keys (B .shaped) (R .shaped) (B .low) (R .low) (q ∙ sym g)) K)
 
   pub bound-seen : row .group ≡ groupB → (s u : ℕ) → s ≡ nth (rowData row .sites) 0 → u ≡ nth (rowData row .vars) 0 → (t : List ℕ) {above : List Row} → All Kept above → t ≡ gather 32 (λ x. nth (x .vars) 0) (λ x. 2 ^ nth (x .sites) 0) (ofGroup groupB above) → mem s (getD t u 0) ≡ repeated above (rowData row)
   bound-seen P s u p q t {above} K e =

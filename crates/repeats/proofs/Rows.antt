@@ -4,21 +4,20 @@ use mathlib.Core.Path.{_≡_, refl, sym, ap, subst, _∙_}
 use mathlib.Core.Bool.{true}
 use mathlib.Core.List.{List, [], _∷_}
 use mathlib.Core.Option.{some}
-use Prim.Native.Nat.{ℕ, _+_, _*_, _<_, _≤_}
-use lib.Dec.{ltb}
-use lib.ListN.{getD}
-use Rattle.sets.specs.Lists.{all, _⧺_}
+use Prim.Native.Nat.{ℕ, _+_, _*_, _<_}
+use lib.Dec.{eqb}
+use Rattle.sets.specs.Lists.{_⧺_}
+use Rattle.sets.proofs.Lists.{only-few}
 use Rattle.sets.proofs.Runs.{cat-none}
 use Rattle.klaim.specs.Rows.{Row, groupD, groupL, groupB}
-use Rattle.klaim.specs.Reader.{inLimits, key, nth, pairPlace, boxPlace, rootOf}
-use Rattle.text.specs.declared.Name.{Name}
-use Rattle.text.specs.Fields.{sitesTo}
+use Rattle.klaim.specs.Reader.{inLimits, key, nth, pairPlace, rootOf}
+use Rattle.klaim.proofs.BoxRows.{BoxShaped}
+use Rattle.text.specs.Fields.{unsaid, sitesTo}
 use Rattle.forms.specs.declared.RowData.{RowData}
 use Rattle.forms.specs.Forms.{rowData, rowGood, pairGroup, tupleGroup}
 use Rattle.forms.proofs.RowForms.{rowAs}
 use Rattle.judge.proofs.Limits.{good, group-is}
 use Rattle.stores.proofs.Shapes as Shapes
-use Rattle.stores.proofs.Stores.{toward-low}
 use Rattle.repeats.specs.Kept.{Kept}
 
 -- R and E rows
@@ -30,13 +29,10 @@ pub record PairRow (s t : ℕ) (x : Row) : Type 0 where
   pub t-low : t < 32
 
 -- D rows
-pub record BoxRow (k : ℕ) (m : Name) (x : Row) : Type 0 where
-  pub keyed : key x ≡ x .group ∷ k ∷ sitesTo m
-  pub placed : boxPlace x ≡ 33 * k + getD (sitesTo m) 0 32
-  pub some : 0 < x .rights
-  pub k-low : k < 32
-  pub t-low : all (λ s. ltb s 32) (sitesTo m) ≡ true
-  pub t-most : getD (sitesTo m) 0 32 ≤ 32
+pub record BoxRow (x : Row) : Type 0 where
+  pub shaped : BoxShaped x
+  pub low : inLimits x ≡ true
+  pub said : x .rights < unsaid
 
 -- B rows
 pub record BoundRow (u s : ℕ) (x : Row) : Type 0 where
@@ -67,12 +63,12 @@ module _ (r : RowData) (G : rowGood r ≡ true) (L : inLimits (rowData r) ≡ tr
       subst (λ (x : Row). PairRow (r .line .target .number) (r .line .fields .a .number) x) (sym (P .row-is))
       (record { keyed = refl; placed = refl; some = P .some; s-low = P .from-low; t-low = P .to-low })
 
-  pub box-row : r .group ≡ groupD → BoxRow (r .line .sandbox) (r .line .target) (rowData r)
-  unfolding key boxPlace _⧺_
+  pub box-row : r .group ≡ groupD → BoxRow (rowData r)
+  unfolding key sitesTo _⧺_
   box-row p =
       let P = Shapes.box-row r G L p in
-      subst (λ (x : Row). BoxRow (r .line .sandbox) (r .line .target) x) (sym (P .row-is))
-      (record { keyed = ap (λ (l : List ℕ). r .group ∷ r .line .sandbox ∷ l) (cat-none (sitesTo (r .line .target))); placed = refl; some = P .some; k-low = P .box-low; t-low = rw (P .row-is) at (Shapes.within (rowData r) L .sites-low); t-most = toward-low P })
+      let shape : BoxShaped (rowData r) = subst BoxShaped (sym (P .row-is)) (record { boxes-one = refl; sites-few = only-few (eqb (r .line .target .kind) 1) (r .line .target .number); key-is = refl }) in
+      record { shaped = shape; low = L; said = rw (P .row-is) (P .said) }
 
   pub bound-row : r .group ≡ groupB → BoundRow (r .variable) (r .line .target .number) (rowData r)
   unfolding key _⧺_
@@ -102,8 +98,8 @@ module _ {b : Row} (k : Kept b) where
   pub kept-pair : pairGroup (b .group) ≡ true → PairRow (k .row .line .target .number) (k .row .line .fields .a .number) b
   kept-pair p = subst (λ (x : Row). PairRow (k .row .line .target .number) (k .row .line .fields .a .number) x) (k .is) (pair-row (k .row) (k .good) (kept-low k) (rw (kept-group k) p))
 
-  pub kept-box : b .group ≡ groupD → BoxRow (k .row .line .sandbox) (k .row .line .target) b
-  kept-box p = subst (λ (x : Row). BoxRow (k .row .line .sandbox) (k .row .line .target) x) (k .is) (box-row (k .row) (k .good) (kept-low k) (kept-group k ∙ p))
+  pub kept-box : b .group ≡ groupD → BoxRow b
+  kept-box p = subst BoxRow (k .is) (box-row (k .row) (k .good) (kept-low k) (kept-group k ∙ p))
 
   pub kept-bound : b .group ≡ groupB → BoundRow (k .row .variable) (k .row .line .target .number) b
   kept-bound p = subst (λ (x : Row). BoundRow (k .row .variable) (k .row .line .target .number) x) (k .is) (bound-row (k .row) (k .good) (kept-low k) (kept-group k ∙ p))

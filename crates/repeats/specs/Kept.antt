@@ -5,11 +5,13 @@ use mathlib.Core.Bool.{Bool, true, cond}
 use mathlib.Core.List.{List, [], _∷_, map}
 use Prim.Native.Nat.{ℕ, _+_, _*_, _<_}
 use lib.Dec.{eqb, ltb}
-use lib.ListN.{take}
+use lib.ListN.{replicate, take}
 use Rattle.sets.specs.Lists.{_&_}
+use Rattle.klaim.specs.Limits.{boxesSize}
 use Rattle.klaim.specs.Rows.{Row}
 use Rattle.klaim.specs.Net.{Root}
 use Rattle.klaim.specs.Reader.{inLimits, ofGroup}
+use Rattle.text.specs.Fields.{unsaid}
 use Rattle.forms.specs.declared.RowData.{RowData}
 use Rattle.forms.specs.Forms.{rowData, rowGood}
 
@@ -20,6 +22,10 @@ pub record Kept (r : Row) : Type 0 where
   pub good : rowGood row ≡ true
   pub some : 0 < row .group
   pub low : inLimits r ≡ true
+
+-- the sandboxes' table with no row put into it: no place says rights
+abbrev pub unsaidBoxes : List ℕ
+unsaidBoxes = replicate boxesSize unsaid
 
 -- the root is line q at site s
 unfoldable pub rootSame : ℕ → ℕ → Root → Bool

@@ -7,12 +7,13 @@ ghost use lib.Dec.{eqb};
 ghost use lib.ListN.{length, take};
 ghost use Rattle.sets.specs.Lists.{All, any, either};
 ghost use Rattle.klaim.specs.Rows.{Row, groupD, groupL, groupB};
-ghost use Rattle.klaim.specs.Reader.{inLimits, ofGroup, repeated, nth, gather, pairPlace, boxPlace, rootOf};
+ghost use Rattle.klaim.specs.Reader.{inLimits, ofGroup, repeated, nth, gather, pairPlace, putBoxes, rootOf};
 ghost use Rattle.forms.specs.Forms.{rowData, rowGood, pairGroup, tupleGroup};
 ghost use Rattle.tables.specs.View.{rowAt, rootAt, rootsView};
-ghost use Rattle.repeats.specs.Kept.{Kept, rootSame, tupleKey, keyStep, KeysAre};
+ghost use Rattle.repeats.specs.Kept.{Kept, unsaidBoxes, rootSame, tupleKey, keyStep, KeysAre};
 use forms::RowData;
 use tables::ROOT;
+use text::UNSAID;
 
 // 3: whether an R or an E row repeats one above: its place in the table is taken.
 pub fn pair_seen(t: &[u8; 1024], row: RowData) -> bool
@@ -26,16 +27,16 @@ pub fn pair_seen(t: &[u8; 1024], row: RowData) -> bool
     t[at] != 0
 }
 
-// 3: whether a D row repeats one above: its place in the table is taken.
+// 3: whether a D row repeats one above: rights, the empty set among them, are said at its place in the table.
 pub fn box_seen(t: &[u8; 1056], row: RowData) -> bool
     requires { ⌜ rowGood row ≡ true ⌝ }
     requires { ⌜ inLimits (rowData row) ≡ true ⌝ }
     requires { ⌜ length (now t) ≡ 1056 ⌝ }
     requires { ⌜ row .group ≡ groupD ⌝ }
-    ensures { λ r. ⌜ ((above : List Row) → All Kept above → now (t .entry) ≡ gather 1056 boxPlace (λ x. x .rights) (ofGroup groupD above) → r ≡ repeated above (rowData row)) ⌝ }
+    ensures { λ r. ⌜ ((above : List Row) → All Kept above → now (t .entry) ≡ putBoxes unsaidBoxes (ofGroup groupD above) → r ≡ repeated above (rowData row)) ⌝ }
 {
     let at = stores::box_place(row);
-    t[at] != 0
+    t[at] < UNSAID
 }
 
 // 3: whether a B row repeats one above: its site is in the set of its variable.

@@ -9,30 +9,16 @@ use lib.Dec.{leb, ltb}
 use borrow.Author.Tests.{ltb-true, leb-true}
 use Rattle.sets.specs.Lists.{_&_, imp, all, only}
 use Rattle.sets.proofs.Lists.{and-l, and-r, low-first, low-rest}
-use Rattle.klaim.specs.Limits.{siteLimit, boxLimit, varLimit, lineLimit}
-use Rattle.klaim.specs.Rows.{Row, groupN, groupD, groupL, groupB}
+use Rattle.klaim.specs.Limits.{siteLimit}
+use Rattle.klaim.specs.Rows.{groupN, groupD, groupL, groupB}
 use Rattle.klaim.specs.Reader.{inLimits}
-use Rattle.text.specs.Fields.{sitesTo}
+use Rattle.klaim.proofs.Within.{within}
+use Rattle.text.specs.Fields.{unsaid, sitesTo}
 use Rattle.lines.specs.Lines.{fitAll}
 use Rattle.forms.specs.declared.RowData.{RowData}
 use Rattle.forms.specs.Forms.{rowData, pairGroup, tupleGroup, rowGood}
 use Rattle.forms.proofs.RowForms.{rowAs, numbers, pair-some, tuple-some}
 use Rattle.forms.proofs.Views.{row-of, view-n, view-pair, view-d, view-tuple, view-l, view-b}
-
--- the numbers of a row within limits
-pub record Within (R : Row) : Type 0 where
-  pub boxes-low : all (λ k. ltb k boxLimit) (R .boxes) ≡ true
-  pub vars-low : all (λ u. ltb u varLimit) (R .vars) ≡ true
-  pub sites-low : all (λ s. ltb s siteLimit) (R .sites) ≡ true
-  pub lines-low : all (λ q. ltb q lineLimit) (R .lines) ≡ true
-
-pub within : (R : Row) → inLimits R ≡ true → Within R
-unfolding inLimits
-within R h =
-    let b = and-r _ _ h in
-    let v = and-r _ _ b in
-    let s = and-r _ _ v in
-    record { boxes-low = and-l _ _ b; vars-low = and-l _ _ v; sites-low = and-l _ _ s; lines-low = and-r _ _ s }
 
 -- an N row
 pub record SizeRow (r : RowData) : Type 0 where
@@ -50,7 +36,7 @@ pub record PairRow (r : RowData) : Type 0 where
 -- a D row: towards a site, or towards `self`
 pub record BoxRow (r : RowData) : Type 0 where
   pub row-is : rowData r ≡ rowAs (r .group) (r .size) (r .line .sandbox ∷ []) [] (sitesTo (r .line .target)) [] (r .rights)
-  pub some : 0 < r .rights
+  pub said : r .rights < unsaid
   pub box-low : r .line .sandbox < 32
   pub to-low : r .line .target .kind ≡ 1 → r .line .target .number < 32
 
@@ -96,7 +82,7 @@ module _ (r : RowData) (G : rowGood r ≡ true) (L : inLimits (rowData r) ≡ tr
       let s = row-of r _ (λ z. omega arith) (v .0) in
       let b = rw s at (within (rowData r) L .boxes-low) in
       let l = rw s at (within (rowData r) L .sites-low) in
-      record { row-is = s; some = v .1; box-low = low-first 32 _ _ b; to-low = λ k. low-first 32 _ _ (rw k at l) }
+      record { row-is = s; said = v .1; box-low = low-first 32 _ _ b; to-low = λ k. low-first 32 _ _ (rw k at l) }
 
   pub tuple-row : tupleGroup (r .group) ≡ true → TupleRow r
   unfolding all

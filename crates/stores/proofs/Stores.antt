@@ -14,9 +14,9 @@ use borrow.Author.Tests.{eq-eqb, ne-eqb}
 use Rattle.sets.specs.Lists.{only}
 use Rattle.sets.specs.Bits.{join}
 use Rattle.sets.proofs.Lists.{or-case, eqb-eq}
-use Rattle.klaim.specs.Rows.{Row, groupL, groupB}
-use Rattle.klaim.specs.Reader.{inLimits, ofGroup, nth, gather, pairPlace, boxPlace, rootOf}
-use Rattle.klaim.proofs.Above.{group-own, gather-snoc}
+use Rattle.klaim.specs.Rows.{Row, groupD, groupL, groupB}
+use Rattle.klaim.specs.Reader.{inLimits, ofGroup, nth, gather, pairPlace, boxPlace, putBoxes, rootOf}
+use Rattle.klaim.proofs.Above.{group-own, gather-snoc, boxes-snoc}
 use Rattle.text.specs.declared.Name.{Name}
 use Rattle.text.specs.Fields.{sitesTo}
 use Rattle.forms.specs.declared.RowData.{RowData}
@@ -82,8 +82,9 @@ module _ (r : RowData) (G : rowGood r ≡ true) (L : inLimits (rowData r) ≡ tr
 pub pair-put : {r : RowData} → PairRow r → (t : List ℕ) (i : ℕ) → (i ≡ pairPlace (rowData r)) × (i < 1024) → (above : List Row) → t ≡ gather 1024 pairPlace (λ x. x .rights) (ofGroup (r .group) above) → set t i (join (getD t i 0) (r .rights)) ≡ gather 1024 pairPlace (λ x. x .rights) (ofGroup (r .group) (above ++ (rowData r ∷ [])))
 pair-put {r} P t i h = gathered 1024 pairPlace (λ x. x .rights) (r .group) (rowData r) t i (r .rights) (rw (P .row-is)) (sym (h .0)) (rw (P .row-is)) (h .1)
 
-pub box-put : {r : RowData} → BoxRow r → (t : List ℕ) (i : ℕ) → (i ≡ boxPlace (rowData r)) × (i < 1056) → (above : List Row) → t ≡ gather 1056 boxPlace (λ x. x .rights) (ofGroup (r .group) above) → set t i (join (getD t i 0) (r .rights)) ≡ gather 1056 boxPlace (λ x. x .rights) (ofGroup (r .group) (above ++ (rowData r ∷ [])))
-box-put {r} P t i h = gathered 1056 boxPlace (λ x. x .rights) (r .group) (rowData r) t i (r .rights) (rw (P .row-is)) (sym (h .0)) (rw (P .row-is)) (h .1)
+pub box-put : {r : RowData} → BoxRow r → r .group ≡ groupD → (t : List ℕ) (i : ℕ) → i ≡ boxPlace (rowData r) → (start : List ℕ) (above : List Row) → t ≡ putBoxes start (ofGroup groupD above) → set t i (r .rights) ≡ putBoxes start (ofGroup groupD (above ++ (rowData r ∷ [])))
+box-put {r} P g t i h start above e =
+    sym (ap (putBoxes start) (group-own groupD above (rowData r) (eq-eqb (rowData r .group) groupD (rw (P .row-is) g))) ∙ boxes-snoc start (ofGroup groupD above) (rowData r) ∙ rw (← h, ← e, P .row-is))
 
 pub bound-put : {r : RowData} → BoundRow r → (t : List ℕ) (i s v : ℕ) → (i ≡ nth (rowData r .vars) 0) × (i < 32) → s ≡ nth (rowData r .sites) 0 → v ≡ 2 ^ s → (above : List Row) → t ≡ gather 32 (λ x. nth (x .vars) 0) (λ x. 2 ^ nth (x .sites) 0) (ofGroup (r .group) above) → set t i (join (getD t i 0) v) ≡ gather 32 (λ x. nth (x .vars) 0) (λ x. 2 ^ nth (x .sites) 0) (ofGroup (r .group) (above ++ (rowData r ∷ [])))
 bound-put {r} P t i s v h e z = gathered 32 (λ x. nth (x .vars) 0) (λ x. 2 ^ nth (x .sites) 0) (r .group) (rowData r) t i v (rw (P .row-is)) (sym (h .0)) (rw (← e, z)) (h .1)

@@ -2,10 +2,10 @@
 ghost use mathlib.Core.Path.{_≡_};
 ghost use mathlib.Core.Bool.{true};
 ghost use mathlib.Core.List.{List, [], _∷_, _++_};
-ghost use Prim.Native.Nat.{_+_, _<_, _^_};
+ghost use Prim.Native.Nat.{ℕ, _+_, _<_, _^_};
 ghost use lib.ListN.{length, getD};
 ghost use Rattle.klaim.specs.Rows.{Row, groupD, groupL, groupQ, groupB};
-ghost use Rattle.klaim.specs.Reader.{inLimits, ofGroup, nth, gather, pairPlace, boxPlace, rootOf};
+ghost use Rattle.klaim.specs.Reader.{inLimits, ofGroup, nth, gather, pairPlace, boxPlace, putBoxes, rootOf};
 ghost use Rattle.text.specs.Fields.{sitesTo};
 ghost use Rattle.forms.specs.Forms.{rowData, rowGood, pairGroup, tupleGroup};
 ghost use Rattle.tables.specs.View.{linesView, rowsView, rootsView};
@@ -78,18 +78,18 @@ pub fn box_place(row: RowData) -> usize
     BOX * (k as usize) + to
 }
 
-// The rights of a D row, added to those that stand there for its sandbox and its site or `self`.
+// The rights of a D row, in place of what stands there for its sandbox and its site or `self`.
 pub fn put_box(t: &mut [u8; 1056], row: RowData)
     requires { ⌜ rowGood row ≡ true ⌝ }
     requires { ⌜ inLimits (rowData row) ≡ true ⌝ }
     requires { ⌜ row .group ≡ groupD ⌝ }
     requires { ⌜ length (now t) ≡ 1056 ⌝ }
     ensures { λ r. ⌜ length (now (t .exit)) ≡ 1056 ⌝ }
-    ensures { λ r. ⌜ ((above : List Row) → now (t .entry) ≡ gather 1056 boxPlace (λ x. x .rights) (ofGroup (row .group) above) → now (t .exit) ≡ gather 1056 boxPlace (λ x. x .rights) (ofGroup (row .group) (above ++ (rowData row ∷ [])))) ⌝ }
+    ensures { λ r. ⌜ ((start : List ℕ) (above : List Row) → now (t .entry) ≡ putBoxes start (ofGroup groupD above) → now (t .exit) ≡ putBoxes start (ofGroup groupD (above ++ (rowData row ∷ [])))) ⌝ }
 {
     let rights = row.rights;
     let at = box_place(row);
-    t[at] = t[at] | rights;
+    t[at] = rights;
 }
 
 // The site of an L or a B row.

@@ -31,6 +31,9 @@ pub const BOX: usize = 33;
 
 pub const OWN: usize = 32;
 
+// Bytes of all sandboxes.
+pub const BOXES: usize = SANDBOXES * BOX;
+
 // Bytes of a tuple, and of a root: its site, then its line.
 pub const TUPLE: usize = 6;
 

@@ -7,30 +7,22 @@ use mathlib.Core.Option.{Option, none, some}
 use Prim.Native.Nat.{ℕ, suc, _+_, _*_, _≤_, _<_}
 use native.Mathlib.Numerals.{add-one}
 use native.Mathlib.Omega.{arith}
-use lib.Dec.{eqb, leb, ltb}
+use lib.Dec.{eqb, ltb}
 use lib.ListN.{length, getD, drop, drop-of-length-le}
 use lib.Seq.{drop-cons}
-use borrow.Author.Tests.{lt-ltb, leb-true, ltb-true, ltb-false, eqb-true}
-use Rattle.sets.specs.Lists.{_&_, either, imp, all, any, among, empty}
-use Rattle.sets.proofs.Lists.{all-at, among-in, imp-e}
-use Rattle.klaim.specs.Rows.{given, otherwise, _>>=_, rightOf, rightsAfter, rightsField}
-use Rattle.text.specs.Fields.{rightsOf, hitAt, bits}
+use borrow.Author.Tests.{lt-ltb, ltb-true, ltb-false, eqb-true}
+use Rattle.sets.specs.Lists.{_&_, either, any, among, empty, same as sameBytes}
+use Rattle.sets.proofs.Lists.{among-in}
+use Rattle.sets.proofs.Bits.{right-double}
+use Rattle.klaim.specs.Rows.{given, otherwise, _>>=_, text, rightOf, rightsAfter, rightsField, boxRightsField}
+use Rattle.klaim.proofs.Options.{bind-none}
+use Rattle.text.specs.Fields.{rightsOf, unsaid, boxRightsOf, hitAt, bits}
 
 module _ {A B : Type 0} where
-  bind-none : (o : Option A) (g : A → Option B) → ((x : A) → g x ≡ none) → (o >>= g) ≡ none
-  unfolding _>>=_
-  bind-none none g h = refl
-  bind-none (some x) g h = h x
-
   bind-same : (o : Option A) (g k : A → Option B) → ((x : A) → g x ≡ k x) → (o >>= g) ≡ (o >>= k)
   unfolding _>>=_
   bind-same none g k h = refl
   bind-same (some x) g k h = h x
-
--- each right is at least twice any that stands before it
-bit-double : (a b : ℕ) → among bits a ≡ true → among bits b ≡ true → a < b → 2 * a ≤ b
-unfolding among all _&_ imp
-bit-double a b s t h = leb-true _ _ (imp-e _ _ (all-at (λ y. imp (ltb a y) (leb (2 * a) y)) (among-in bits b t) (all-at (λ x. all (λ y. imp (ltb x y) (leb (2 * x) y)) bits) (among-in bits a s) refl)) (lt-ltb a b h))
 
 -- one letter, behind the right `last`
 module _ (f : List ℕ) (i last r : ℕ) (h : i < length f) (q : rightsOf r ≡ rightOf (getD f i 0)) where
@@ -67,7 +59,7 @@ module _ {f : List ℕ} {sum last i : ℕ} (S : Summing f sum last i) (r : ℕ) 
   summing-next t m = record {
     within = omega arith;
     many = omega (arith, S .many);
-    size = omega (arith, S .size, bit-double last r (S .bit) t m);
+    size = omega (arith, S .size, right-double last r (among-in bits last (S .bit)) (among-in bits r t) m);
     bit = t;
     value = S .value ∙ rw (rights-next f i last r h q m) (add-all sum r (rightsAfter r (drop (i + 1) f)));
   }
@@ -181,6 +173,20 @@ summing-more {f} {sum} {i} S h = rw (S .value, drop-cons f i 0 (omega (arith, S 
 pub rights-no : rightsOf 0 ≡ none
 unfolding rightsOf given
 rights-no = refl
+
+-- the rights of a D row: `-`, no rights, rights as in other rows
+pub box-dash : (f : List ℕ) → sameBytes f (text "-") ≡ true → boxRightsOf 0 ≡ boxRightsField f
+unfolding boxRightsOf boxRightsField given otherwise
+box-dash f d = rw d
+
+module _ (f : List ℕ) (d : sameBytes f (text "-") ≡ false) (r : ℕ) (e : rightsOf r ≡ rightsField f) where
+  pub box-none : r ≡ 0 → boxRightsOf unsaid ≡ boxRightsField f
+  unfolding boxRightsOf boxRightsField rightsOf given otherwise
+  box-none z = rw (d, ← e, z)
+
+  pub box-some : (r ≡ 0 → ⊥) → r < unsaid → boxRightsOf r ≡ boxRightsField f
+  unfolding boxRightsOf boxRightsField rightsOf given otherwise
+  box-some z l = rw (d, ← e, lt-ltb r unsaid l, lt-ltb 0 r (omega arith))
 
 all-read : {f : List ℕ} {sum last i : ℕ} → Summing f sum last i → length f ≤ i → rightsAfter 0 f ≡ some (sum + 0)
 unfolding rightsAfter _>>=_

@@ -44,6 +44,13 @@ digitsField f = given (all digit f) (some (decimal 0 f))
 unfoldable pub rightsOf : ℕ → Option ℕ
 rightsOf r = given (ltb 0 r) (some r)
 
+-- the scalar that stands for none in a D row, where 0 is the empty set (No. 3: "`-` is the empty set")
+abbrev pub unsaid : ℕ
+unsaid = 128
+
+unfoldable pub boxRightsOf : ℕ → Option ℕ
+boxRightsOf r = given (ltb r unsaid) (some r)
+
 -- 1 if byte i of a field is the letter, else 0
 unfoldable pub hitAt : ℕ → List ℕ → ℕ → ℕ
 hitAt letter f i = cond (ltb i (length f) & eqb (getD f i 0) letter) 1 0

@@ -5,9 +5,10 @@ ghost use Prim.Native.Nat.{_+_, _-_, _<_, _≤_};
 ghost use lib.ListN.{length, set, take, drop};
 ghost use lib.Dec.{eqb};
 ghost use Rattle.sets.specs.Lists.{either, same as sameBytes};
-ghost use Rattle.klaim.specs.Rows.{split, comma, newline, at, number as numberField, lettered as letteredField, siteField, varField, isSelf, isWildcard, bindField, rightsField};
+ghost use Rattle.sets.specs.Bits.{everyRight};
+ghost use Rattle.klaim.specs.Rows.{split, comma, newline, at, number as numberField, lettered as letteredField, siteField, varField, isSelf, isWildcard, bindField, rightsField, boxRightsField};
 ghost use Rattle.text.specs.Pieces.{endOf, edgeLimit, Cut, Mark, commaAt};
-ghost use Rattle.text.specs.Fields.{numberOf, shapeOf, valueOf, joinedOf, digitsField, rightsOf, hitAt, binderOf, pickName, Named, letterOf, wordOf};
+ghost use Rattle.text.specs.Fields.{numberOf, shapeOf, valueOf, joinedOf, digitsField, rightsOf, boxRightsOf, hitAt, binderOf, pickName, Named, letterOf, wordOf};
 
 const NEWLINE: u8 = 10;
 
@@ -312,6 +313,7 @@ fn hit(f: &[u8], i: usize, letter: u8) -> usize
 // The rights of a field, 0 where it is not of their form: each letter stands behind those that are there of the letters before it.
 pub fn rights(f: &[u8]) -> u8
     ensures { λ r. ⌜ rightsOf r ≡ rightsField (now (f .entry)) ⌝ }
+    ensures { λ r. ⌜ r ≤ everyRight ⌝ }
 {
     let o = hit(f, 0, b'o');
     let i = hit(f, o, b'i');
@@ -322,6 +324,23 @@ pub fn rights(f: &[u8]) -> u8
         return 0;
     }
     (o + 2 * i + 4 * r + 8 * e + 16 * a) as u8
+}
+
+// Stands for no rights in a D row, where 0 is the empty set; greater than every set.
+pub const UNSAID: u8 = 128;
+
+// The rights of a field of a D row, where `-` is the empty set; `UNSAID` where it is not of their form.
+pub fn box_rights(f: &[u8]) -> u8
+    ensures { λ r. ⌜ boxRightsOf r ≡ boxRightsField (now (f .entry)) ⌝ }
+{
+    if same(f, b"-") {
+        return 0;
+    }
+    let set = rights(f);
+    if set == 0 {
+        return UNSAID;
+    }
+    set
 }
 
 // What a target or a field names.

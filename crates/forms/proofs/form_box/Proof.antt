@@ -1,6 +1,6 @@
 use mathlib.Core.Path.{refl, sym, _∙_}
 use Rattle.sets.specs.Lists.{_&_, either, only}
-use Rattle.text.specs.Fields.{upTo}
+use Rattle.text.specs.Fields.{unsaid, upTo}
 use Rattle.lines.specs.Lines.{names, present, nameFits, fieldsFit, lineShape}
 use Rattle.forms.specs.Forms.{rowView, rowData, plainRow, listed, pairGroup, tupleGroup, plainShape, plainGood, rowGood}
 use Rattle.sets.proofs.Runs.{cat-none}
@@ -9,7 +9,7 @@ use native.Mathlib.Omega.{arith}
 use borrow.Author.Needs.{needs}
 use borrow.Author.Tests.{eq-eqb, ne-eqb, lt-ltb, le-ltb}
 use Rattle.klaim.specs.Rows.{given}
-use Rattle.lines.proofs.LineKinds.{given-none}
+use Rattle.klaim.proofs.Options.{given-none}
 use Rattle.forms.proofs.form_box.Statement.{statement}
 use Rattle.forms.proofs.form_box.Tie as tie
 
@@ -23,14 +23,14 @@ returns-2 c = (λ fs M p N r. rw (box-by fs _ M _ _ _ p N r, eq-eqb _ _ (c .befo
 
 returns-3 : tie.Need-returns-3
 unfolding rowView given rowGood
-returns-3 c = (λ fs M p N r. rw (box-by fs _ M _ _ _ p N r, eq-eqb _ _ (c .before .before .if1 .left), lt-ltb _ _ (c .before .if2 .left), le-ltb 0 (c .before .before .before .args .rights) (omega arith)) (given-none (upTo 2 (c .before .before .before .args .t))), refl)
+returns-3 c = (λ fs M p N r. rw (box-by fs _ M _ _ _ p N r, eq-eqb _ _ (c .before .before .if1 .left), lt-ltb _ _ (c .before .if2 .left), le-ltb (c .before .before .before .args .rights) unsaid (omega arith)) (given-none (upTo 2 (c .before .before .before .args .t))), refl)
 
 fit-requires : tie.Need-fit-requires
 fit-requires c κs = search needs
 
 returns-4 : tie.Need-returns-4
 unfolding rowView given rowData plainRow listed only names rowGood plainGood plainShape pairGroup tupleGroup either lineShape present nameFits fieldsFit _&_
-returns-4 c = (λ fs M p N r. rw (box-by fs _ M _ _ _ p N r, eq-eqb _ _ (c .before .before .before .before .if1 .left), lt-ltb _ _ (c .before .before .before .if2 .left), lt-ltb 0 (c .before .before .before .before .before .args .rights) (omega arith), sym (c .before .fit .ensures) ∙ c .if4 .taken, cat-none), rw (lt-ltb _ _ (c .before .before .before .if2 .left), lt-ltb 0 (c .before .before .before .before .before .args .rights) (omega arith), sym (c .before .fit .ensures) ∙ c .if4 .taken))
+returns-4 c = (λ fs M p N r. rw (box-by fs _ M _ _ _ p N r, eq-eqb _ _ (c .before .before .before .before .if1 .left), lt-ltb _ _ (c .before .before .before .if2 .left), lt-ltb (c .before .before .before .before .before .args .rights) unsaid (omega arith), sym (c .before .fit .ensures) ∙ c .if4 .taken, cat-none), rw (lt-ltb _ _ (c .before .before .before .if2 .left), lt-ltb (c .before .before .before .before .before .args .rights) unsaid (omega arith), sym (c .before .fit .ensures) ∙ c .if4 .taken))
 
 returns-5 : tie.Need-returns-5
 unfolding rowView given rowGood

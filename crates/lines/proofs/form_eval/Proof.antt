@@ -5,7 +5,8 @@ use Rattle.sets.specs.Lists.{_&_}
 use Rattle.klaim.specs.Rows.{given}
 use Rattle.text.specs.Fields.{upTo}
 use Rattle.lines.specs.Lines.{lineGood, lineShape, present, nameFits, fieldsFit, lineView, lineOf}
-use Rattle.lines.proofs.LineKinds.{eval-by, given-none}
+use Rattle.klaim.proofs.Options.{given-none}
+use Rattle.lines.proofs.LineKinds.{eval-by}
 use Rattle.lines.proofs.form_eval.Statement.{statement}
 use Rattle.lines.proofs.form_eval.Tie as tie
 

@@ -9,7 +9,7 @@ rights-requires : tie.Need-rights-requires
 rights-requires c κs = search needs
 
 returns : tie.Need-returns
-returns c = rw (← c .before .field .ensures) (c .rights .ensures)
+returns c = rw (← c .before .field .ensures) (c .rights .ensures .0)
 
 pub rights-at-spec : {M : Type 1} → statement M
 rights-at-spec = tie.close (tie.spec field-requires rights-requires returns)

@@ -66,8 +66,11 @@ refused-by-requires c κs = let R = c .before .before .before .loop .inv in (R .
 cast-size : tie.Need-cast-size Inv-loop μ-loop
 cast-size c = let R = c .before .before .before .before .before .loop .inv in omega (arith, R .room .sizeFew)
 
+fill-unsaid-requires : tie.Need-fill-unsaid-requires Inv-loop μ-loop
+fill-unsaid-requires c κs = c .before .before .before .before .before .before .loop .inv .long .boxesLong
+
 returns : tie.Need-returns Inv-loop μ-loop
-returns c = reading-end _ _ _ _ _ _ _ _ _ (c .before .before .before .before .before .loop .inv) (c .before .before .before .before .loop-test .left) _ (c .before .refused-by .ensures)
+returns c = reading-end _ _ _ _ _ _ _ _ _ (c .before .before .before .before .before .before .before .loop .inv) (c .before .before .before .before .before .before .loop-test .left) _ (c .before .before .before .refused-by .ensures) (c .fill-unsaid .ensures)
 
 pub read-net-spec : {M : Type 1} → statement M
 read-net-spec =
@@ -90,4 +93,5 @@ read-net-spec =
     loop-again-2
     refused-by-requires
     cast-size
+    fill-unsaid-requires
     returns)

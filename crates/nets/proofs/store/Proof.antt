@@ -4,7 +4,7 @@ use mathlib.Core.Path.{sym, ap, _∙_}
 use mathlib.Core.List.{[], _∷_, _++_}
 use Prim.Native.Nat.{ℕ}
 use Rattle.sets.specs.Lists.{either}
-use Rattle.klaim.specs.Reader.{ofGroup, gather, pairPlace, boxPlace}
+use Rattle.klaim.specs.Reader.{ofGroup, gather, pairPlace}
 use Rattle.forms.specs.Forms.{rowData, pairGroup, tupleGroup}
 use Rattle.judge.proofs.Limits.{group-is}
 use Rattle.scan.specs.Tallies.{more}
@@ -33,7 +33,7 @@ returns c = ((c .put-pair .ensures .0, c .before .before .before .pre .1 .1 .1, 
 
 returns-2 : tie.Need-returns-2
 unfolding more tupleGroup either
-returns-2 c = ((c .before .before .before .pre .1 .1 .0, c .put-box .ensures .0, c .before .before .before .pre .1 .1 .2, c .before .before .before .pre .1 .1 .3, c .before .before .before .pre .1 .1 .4), λ above T. counts-at _ _ 3 (c .before .before .match .keys2) (tables-d T _ (group-is _ (c .before .before .before .pre .0) (c .before .before .before .pre .1 .0 .some) ∙ c .before .before .match .keys2) (c .put-box .ensures .1 above (T .boxesIs ∙ ap (λ (g : ℕ). gather 1056 boxPlace (λ x. x .rights) (ofGroup g above)) (sym (c .before .before .match .keys2))) ∙ ap (λ (g : ℕ). gather 1056 boxPlace (λ x. x .rights) (ofGroup g (above ++ (rowData (c .before .before .before .args .row) ∷ [])))) (c .before .before .match .keys2))))
+returns-2 c = ((c .before .before .before .pre .1 .1 .0, c .put-box .ensures .0, c .before .before .before .pre .1 .1 .2, c .before .before .before .pre .1 .1 .3, c .before .before .before .pre .1 .1 .4), λ above T. counts-at _ _ 3 (c .before .before .match .keys2) (tables-d T _ (group-is _ (c .before .before .before .pre .0) (c .before .before .before .pre .1 .0 .some) ∙ c .before .before .match .keys2) (c .put-box .ensures .1 _ above (T .boxesIs))))
 
 returns-3 : tie.Need-returns-3
 unfolding more tupleGroup either

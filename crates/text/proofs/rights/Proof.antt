@@ -51,7 +51,7 @@ add-if1-4 : tie.Need-add-if1-4
 add-if1-4 c = search needs
 
 returns : tie.Need-returns
-returns c = rights-no ∙ sym (summing-more (all-hits _ _ _ _ _ _ (c .before .before .before .before .before .hit .ensures .0) (c .before .before .before .before .hit2 .ensures .0) (c .before .before .before .hit3 .ensures .0) (c .before .before .hit4 .ensures .0) (c .before .hit5 .ensures .0)) (c .if1 .taken))
+returns c = (rights-no ∙ sym (summing-more (all-hits _ _ _ _ _ _ (c .before .before .before .before .before .hit .ensures .0) (c .before .before .before .before .hit2 .ensures .0) (c .before .before .before .hit3 .ensures .0) (c .before .before .hit4 .ensures .0) (c .before .hit5 .ensures .0)) (c .if1 .taken)), omega arith)
 
 mul-result : tie.Need-mul-result
 mul-result c = search needs
@@ -81,7 +81,7 @@ cast-result : tie.Need-cast-result
 cast-result c = search needs
 
 returns-2 : tie.Need-returns-2
-returns-2 c = summing-done _ (all-hits _ _ _ _ _ _ (c .before .before .before .before .before .hit .ensures .0) (c .before .before .before .before .hit2 .ensures .0) (c .before .before .before .hit3 .ensures .0) (c .before .before .hit4 .ensures .0) (c .before .hit5 .ensures .0)) (omega arith)
+returns-2 c = (summing-done _ (all-hits _ _ _ _ _ _ (c .before .before .before .before .before .hit .ensures .0) (c .before .before .before .before .hit2 .ensures .0) (c .before .before .before .hit3 .ensures .0) (c .before .before .hit4 .ensures .0) (c .before .hit5 .ensures .0)) (omega arith), omega arith)
 
 pub rights-spec : {M : Type 1} → statement M
 rights-spec =
