@@ -316,7 +316,7 @@ fn harm_sandboxes(rng: &mut Rng, net: &mut Rows, estimate: &mut Rows, n: u8) {
         1 => {
             let at = some_sandbox_row(rng, net);
             let words = if rng.chance(75) { &MISSPELT[..] } else { &OTHER_MISSPELT };
-            net[at] = with_rights(&net[at], *rng.pick(words));
+            net[at] = with_rights(&net[at], rng.pick::<&str>(words));
         }
         2 => harm_policy(rng, net, estimate),
         3 => harm_number(rng, net, n),

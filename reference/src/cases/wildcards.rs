@@ -92,7 +92,7 @@ fn harm_field(rng: &mut Rng, row: &mut Vec<u8>) {
 
 fn misspelt_word(rng: &mut Rng) -> &'static str {
     let words = if rng.chance(70) { &MISSPELT[..2] } else { MISSPELT };
-    *rng.pick(words)
+    rng.pick::<&str>(words)
 }
 
 /// The fields of templates that are as wanted: line and place.
