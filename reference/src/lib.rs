@@ -9,3 +9,4 @@ pub mod flow;
 pub mod listing;
 pub mod rows;
 pub mod script;
+pub mod streams;

@@ -1,69 +1,183 @@
-//! `lotrun`: net, estimate and commands in, one row out for each command,
-//! and the last state.
+//! `lotrun`: net, estimate and commands in, one row out for each command as
+//! soon as it is there, and the last state.
 
 use crate::engine::{Done, State};
 use crate::listing::{letters, part, write_refusal, write_text};
 use crate::rows::*;
-use std::io::{self, Write};
+use std::io::{self, BufRead, Read, Write};
 
-/// Input up to 1 MiB; longer is 2, row 0, as for the listing.
-pub const MAX_INPUT: usize = 1 << 20;
+/// Most bytes up to and including the second row `.`; more are 2, row 0.
+pub const MAX_HEAD: usize = 1 << 20;
+/// Most bytes of a command row, its 0A not counted; more are a bad command.
+pub const MAX_ROW: usize = 1 << 20;
+/// Most bytes of an arrival's rows; more are 2, row 0.
+pub const MAX_ARRIVAL: usize = 65_536;
+
+/// The row `.`, with its 0A.
+const PARTING_ROW: &[u8] = b".\n";
 
 /// The whole output for one input.
 pub fn run(input: &[u8]) -> Vec<u8> {
     let mut out = Vec::new();
-    run_to(input, &mut out).expect("a vector takes every write");
+    run_to(input, &mut out).expect("slices are read and vectors written without failure");
     out
 }
 
-/// Writes the output as it comes.
-pub fn run_to(input: &[u8], out: &mut impl Write) -> io::Result<()> {
-    if input.len() > MAX_INPUT {
-        return refuse(out, Refusal::whole(OVER_LIMIT));
+/// Writes each row of the output before more of the input is waited for.
+pub fn run_to(input: impl BufRead, out: &mut impl Write) -> io::Result<()> {
+    let mut input = Input::new(input);
+    let mut state = match input.start()? {
+        Err(refusal) => return write_out(out, &refusal_row(refusal)),
+        Ok(state) => state,
+    };
+    write_out(out, b"started\n")?;
+    while let Some(command) = input.next_command()? {
+        write_out(out, &obey(&mut state, &command))?;
     }
-    let (net_text, rest) = part(input);
-    let (estimate_text, commands) = part(rest);
-    match State::start(net_text, estimate_text) {
-        Err(refusal) => refuse(out, refusal),
-        Ok(mut state) => {
-            out.write_all(b"started\n")?;
-            run_commands(&mut state, commands, out)?;
-            out.write_all(&show_state(&state))
-        }
-    }
+    write_out(out, &show_state(&state))
 }
 
-fn refuse(out: &mut impl Write, refusal: Refusal) -> io::Result<()> {
+fn write_out(out: &mut impl Write, rows: &[u8]) -> io::Result<()> {
+    out.write_all(rows)?;
+    out.flush()
+}
+
+fn refusal_row(refusal: Refusal) -> Vec<u8> {
     let mut row = Vec::new();
     write_refusal(&mut row, refusal);
-    out.write_all(&row)
+    row
 }
 
 /// A command row, and the arrival behind a row `bring`.
 pub enum Command<'a> {
     Row(&'a [u8]),
     Bring(&'a [u8]),
-    /// Bytes behind the last 0A are no row, hence no command.
-    Unended,
+    /// The arrival has more than `MAX_ARRIVAL` bytes.
+    BringTooLong,
+    /// A row of more than `MAX_ROW` bytes, or bytes behind the last 0A, which
+    /// are no row.
+    Bad,
 }
 
-/// Takes the next command off `rest`.
-pub fn next_command<'a>(rest: &mut &'a [u8]) -> Option<Command<'a>> {
-    if rest.is_empty() {
-        return None;
+/// Where reading stopped.
+#[derive(Clone, Copy, PartialEq)]
+enum Stop {
+    RowEnd,
+    InputEnd,
+    Limit,
+}
+
+/// The input of a script. The head is taken off it first, then the commands.
+pub struct Input<R> {
+    source: R,
+    /// What is read of the head, of a row or of an arrival.
+    kept: Vec<u8>,
+    /// Whether the end was met: nothing is read behind it.
+    ended: bool,
+}
+
+impl<R: BufRead> Input<R> {
+    pub fn new(source: R) -> Input<R> {
+        Input { source, kept: Vec::new(), ended: false }
     }
-    let Some(end) = rest.iter().position(|&b| b == b'\n') else {
-        *rest = &[];
-        return Some(Command::Unended);
-    };
-    let row = &rest[..end];
-    *rest = &rest[end + 1..];
-    if row != b"bring" {
-        return Some(Command::Row(row));
+
+    /// Takes the head off, and starts from its two texts.
+    pub fn start(&mut self) -> io::Result<Result<State, Refusal>> {
+        if !self.read_head()? {
+            return Ok(Err(Refusal::whole(OVER_LIMIT)));
+        }
+        let (net_text, rest) = part(&self.kept);
+        let (estimate_text, _) = part(rest);
+        Ok(State::start(net_text, estimate_text))
     }
-    let (arrival, behind) = part(rest);
-    *rest = behind;
-    Some(Command::Bring(arrival))
+
+    /// Takes the next command off, with the arrival behind a row `bring`.
+    pub fn next_command(&mut self) -> io::Result<Option<Command<'_>>> {
+        self.kept.clear();
+        match self.read(MAX_ROW + 1)? {
+            Stop::Limit => {
+                self.skip_row()?;
+                return Ok(Some(Command::Bad));
+            }
+            Stop::InputEnd if self.kept.is_empty() => return Ok(None),
+            Stop::InputEnd => return Ok(Some(Command::Bad)),
+            Stop::RowEnd => self.kept.pop(),
+        };
+        if self.kept != b"bring" {
+            return Ok(Some(Command::Row(&self.kept)));
+        }
+        let whole = self.read_arrival()?;
+        Ok(Some(if whole { Command::Bring(&self.kept) } else { Command::BringTooLong }))
+    }
+
+    /// Whether the head is within its limit; of a longer one the rest is not
+    /// read.
+    fn read_head(&mut self) -> io::Result<bool> {
+        let mut partings = 0;
+        while partings < 2 {
+            let start = self.kept.len();
+            let stop = self.read(MAX_HEAD + 1 - start)?;
+            if self.kept.len() > MAX_HEAD {
+                return Ok(false);
+            }
+            if stop == Stop::InputEnd {
+                break;
+            }
+            partings += usize::from(&self.kept[start..] == PARTING_ROW);
+        }
+        Ok(true)
+    }
+
+    /// Whether the arrival is within its limit; a longer one is read up to its
+    /// row `.` all the same, and not kept.
+    fn read_arrival(&mut self) -> io::Result<bool> {
+        self.kept.clear();
+        let mut whole = true;
+        loop {
+            let start = self.kept.len();
+            let mut stop = self.read(MAX_ARRIVAL + PARTING_ROW.len() - start)?;
+            if &self.kept[start..] == PARTING_ROW {
+                self.kept.truncate(start);
+                return Ok(whole);
+            }
+            whole &= self.kept.len() <= MAX_ARRIVAL;
+            if stop == Stop::Limit {
+                stop = self.skip_row()?;
+            }
+            if stop == Stop::InputEnd {
+                return Ok(whole);
+            }
+            if !whole {
+                self.kept.clear();
+            }
+        }
+    }
+
+    /// Reads the rest of a row that is not kept.
+    fn skip_row(&mut self) -> io::Result<Stop> {
+        loop {
+            self.kept.clear();
+            let stop = self.read(MAX_ARRIVAL)?;
+            if stop != Stop::Limit {
+                return Ok(stop);
+            }
+        }
+    }
+
+    /// Adds bytes to those kept, up to and including the next 0A, and at most
+    /// so many. A read that is interrupted is tried again by `read_until`.
+    fn read(&mut self, most: usize) -> io::Result<Stop> {
+        if self.ended {
+            return Ok(Stop::InputEnd);
+        }
+        let mut source = self.source.by_ref().take(most as u64);
+        let count = source.read_until(b'\n', &mut self.kept)?;
+        if count > 0 && self.kept.ends_with(b"\n") {
+            return Ok(Stop::RowEnd);
+        }
+        self.ended = count < most;
+        Ok(if self.ended { Stop::InputEnd } else { Stop::Limit })
+    }
 }
 
 /// The row that a command prints.
@@ -71,25 +185,16 @@ pub fn obey(state: &mut State, command: &Command) -> Vec<u8> {
     match command {
         Command::Row(row) => answer(state, row),
         Command::Bring(arrival) => answer_bring(state, arrival),
-        Command::Unended => b"bad command\n".to_vec(),
+        Command::BringTooLong => refusal_row(Refusal::whole(OVER_LIMIT)),
+        Command::Bad => b"bad command\n".to_vec(),
     }
-}
-
-fn run_commands(state: &mut State, commands: &[u8], out: &mut impl Write) -> io::Result<()> {
-    let mut rest = commands;
-    while let Some(command) = next_command(&mut rest) {
-        out.write_all(&obey(state, &command))?;
-    }
-    Ok(())
 }
 
 fn answer_bring(state: &mut State, arrival: &[u8]) -> Vec<u8> {
-    let mut out = Vec::new();
     match state.bring(arrival) {
-        Ok(root) => write_text(&mut out, &format!("brought,{root}\n")),
-        Err(refusal) => write_refusal(&mut out, refusal),
+        Ok(root) => format!("brought,{root}\n").into_bytes(),
+        Err(refusal) => refusal_row(refusal),
     }
-    out
 }
 
 /// The row for a command other than `bring`.
@@ -188,4 +293,26 @@ fn show_thread(out: &mut Vec<u8>, thread: &crate::engine::Thread) {
         }
     }
     write_text(out, if gap.is_empty() { "-\n" } else { "\n" });
+}
+
+#[cfg(test)]
+mod tests {
+    use super::*;
+    use std::io::{repeat, BufReader};
+
+    const ENDLESS: u64 = 32 << 20;
+
+    /// Vectors grow to twice what they need.
+    #[test]
+    fn endless_inputs_are_not_kept() {
+        for (begin, byte) in [("", b'x'), ("bring\n", b'x'), ("bring\n", b'\n')] {
+            let source = begin.as_bytes().chain(repeat(byte).take(ENDLESS));
+            let mut input = Input::new(BufReader::new(source));
+            assert!(matches!(input.next_command(), Ok(Some(Command::Bad | Command::BringTooLong))));
+            assert!(input.ended && input.kept.capacity() <= 2 * (MAX_ROW + 1));
+        }
+        let mut input = Input::new(BufReader::new(repeat(b'x')));
+        assert!(input.start().is_ok_and(|started| started.is_err()));
+        assert!(input.kept.capacity() <= 2 * (MAX_HEAD + 1));
+    }
 }

@@ -4,12 +4,12 @@
 //! stops at the first difference and saves its input and both outputs to
 //! FOLDER.
 
-use reference::cases::{stored, Kind};
-use reference::script;
+use reference::cases::{limits, stored, Kind};
 use std::error::Error;
 use std::io::{ErrorKind, Write};
 use std::path::{Path, PathBuf};
 use std::process::{Command, Stdio};
+use std::thread;
 
 type Outcome<T> = Result<T, Box<dyn Error>>;
 
@@ -50,16 +50,9 @@ fn main() -> Outcome<()> {
     Ok(())
 }
 
-/// Scripts just within the limit and just past it: one long row behind a net.
+/// Scripts just within the limits and just past them.
 fn long_scripts() -> Vec<Vec<u8>> {
-    [script::MAX_INPUT, script::MAX_INPUT + 1]
-        .map(|size| {
-            let mut text = b"N,1\n.\n.\nready\n".to_vec();
-            text.resize(size - 1, b'x');
-            text.push(b'\n');
-            text
-        })
-        .to_vec()
+    limits::all().into_iter().map(|case| case.text.into_bytes()).collect()
 }
 
 impl Comparison {
@@ -87,16 +80,21 @@ impl Comparison {
     }
 }
 
-/// What a program prints for an input.
+/// What a program prints for an input, which is written while the output is
+/// read: the program answers before it has all of its input.
 fn printed(program: &Path, input: &[u8]) -> Outcome<Vec<u8>> {
     let mut child = Command::new(program).stdin(Stdio::piped()).stdout(Stdio::piped()).spawn()?;
-    // Both programs read to the end, or to their limit, before they write.
-    let written = child.stdin.take().ok_or("no standard input")?.write_all(input);
+    let mut stdin = child.stdin.take().ok_or("no standard input")?;
+    let (written, output) = thread::scope(|scope| {
+        let writer = scope.spawn(move || stdin.write_all(input));
+        let output = child.wait_with_output();
+        (writer.join().expect("a write does not panic"), output)
+    });
     match written {
         Err(error) if error.kind() != ErrorKind::BrokenPipe => return Err(error.into()),
         _ => {}
     }
-    let output = child.wait_with_output()?;
+    let output = output?;
     if !output.status.success() {
         println!("{} ended with {}", program.display(), output.status);
     }

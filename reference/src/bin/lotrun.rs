@@ -1,13 +1,12 @@
-//! Net, a row `.`, estimate, a row `.`, commands on standard input; one row
-//! for each command, then the state, on standard output.
+//! `lotrun [FILE]`: net, a row `.`, estimate, a row `.`, commands from a file
+//! or from standard input; one row for each command as soon as it is there, then
+//! the state, on standard output.
 
-use reference::script;
-use std::io::{self, Read, Write};
+use reference::{script, streams};
+use std::error::Error;
+use std::io::BufReader;
 
-fn main() -> io::Result<()> {
-    let mut input = Vec::new();
-    io::stdin().lock().take(script::MAX_INPUT as u64 + 1).read_to_end(&mut input)?;
-    let mut out = io::BufWriter::new(io::stdout().lock());
-    script::run_to(&input, &mut out)?;
-    out.flush()
+fn main() -> Result<(), Box<dyn Error>> {
+    let input = streams::input(std::env::args_os().skip(1))?;
+    Ok(script::run_to(BufReader::new(input), &mut streams::output()?)?)
 }

@@ -10,9 +10,11 @@ use crate::engine::{State, MAX_THREADS};
 use crate::flow::{first_broken, net_places, reach, report, Broken, Report};
 use crate::listing::{self, letters, part, share, usage};
 use crate::rows::*;
-use crate::script::{self, Command};
+use crate::script::{self, Command, Input, MAX_ARRIVAL};
 use std::cmp::Ordering;
 use std::collections::{BTreeMap, BTreeSet};
+
+const READ: &str = "a slice is read without failure";
 
 /// One thing seen, and the row that it names (else 0).
 pub struct Seen {
@@ -243,15 +245,14 @@ impl Watcher {
     }
 
     fn script(&mut self, case: &[u8]) {
-        let (net_text, rest) = part(case);
-        let (estimate_text, mut commands) = part(rest);
-        let mut state = match State::start(net_text, estimate_text) {
+        let mut input = Input::new(case);
+        let mut state = match input.start().expect(READ) {
             Ok(state) => state,
             Err(refusal) => return self.note(format!("start: refused {}", refusal.number)),
         };
         self.note("start: taken");
         let (mut history, mut others) = (History::default(), Others::of(&state));
-        while let Some(command) = script::next_command(&mut commands) {
+        while let Some(command) = input.next_command().expect(READ) {
             let before = state.clone();
             let answer = script::obey(&mut state, &command);
             let answer = String::from_utf8_lossy(&answer);
@@ -294,7 +295,13 @@ impl Watcher {
     }
 
     fn bring(&mut self, before: &State, after: &State, command: &Command, fields: &[&str]) {
-        let (Command::Bring(text), ["refused", number, row]) = (command, fields) else {
+        let Command::Bring(text) = command else {
+            return self.note("bring: too long");
+        };
+        if text.len() == MAX_ARRIVAL {
+            self.note("bring: of the greatest length");
+        }
+        let ["refused", number, row] = fields else {
             self.note("bring: taken");
             return self.wildcards(wildcards::brought(&after.net.lines[before.net.lines.len()..]));
         };
@@ -351,13 +358,13 @@ impl Watcher {
 /// The name of a command, and its numbers where it has three.
 fn called<'a>(command: &Command<'a>) -> (&'a str, Option<[usize; 3]>) {
     match *command {
-        Command::Bring(_) => ("bring", None),
+        Command::Bring(_) | Command::BringTooLong => ("bring", None),
         Command::Row(b"ready") => ("ready", None),
         Command::Row(row) => {
             let (name, numbers) = script::name_and_numbers(row);
             (std::str::from_utf8(name).unwrap_or_default(), numbers)
         }
-        Command::Unended => ("", None),
+        Command::Bad => ("", None),
     }
 }
 

@@ -74,7 +74,8 @@ impl History {
                 self.other(before, row, answer, &mut seen);
                 Last::Other
             }
-            (Command::Unended, _) => Last::Other,
+            (Command::BringTooLong, _) => Last::BringRefused,
+            (Command::Bad, _) => Last::Other,
         };
         if last != Last::Withdrawn {
             self.in_a_row = 0;

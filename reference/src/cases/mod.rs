@@ -22,6 +22,7 @@ pub mod heavy;
 mod inspectors;
 mod ledgers;
 mod letters;
+pub mod limits;
 mod listings;
 mod nets;
 #[cfg(test)]
