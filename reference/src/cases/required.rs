@@ -28,6 +28,10 @@ fn some(name: impl Into<String>) -> Wanted {
     Wanted { name: name.into(), least: SOME, cases: 1, rows: 0 }
 }
 
+fn once(name: impl Into<String>) -> Wanted {
+    Wanted { name: name.into(), least: 1, cases: 1, rows: 0 }
+}
+
 fn at_many_rows(name: String) -> Wanted {
     Wanted { name, least: OFTEN, cases: OFTEN, rows: MANY_ROWS }
 }
@@ -59,6 +63,7 @@ pub fn required(kind: Kind) -> Vec<Wanted> {
         Kind::Script => {
             all.extend((BAD_FORM..=FREE_VARIABLE).map(|n| often(format!("bring: refused {n}"))));
             all.extend(COMMANDS.map(often));
+            all.extend(["bring: of the greatest length", "bring: too long"].map(once));
             all.extend(["step", "guarded"].into_iter().flat_map(steps));
             let lines = ["out", "in", "read", "eval", "accept"];
             all.extend(lines.map(|line| often(format!("guarded {line}: refused 26"))));

@@ -1,7 +1,8 @@
 //! The cases of the stored runs: those of documents 01 and 02, those that print
 //! every set of rights but the empty one, those about a ledger's columns, about
-//! a carrier's agents and about an inspector, and such seeds that every thing
-//! which can be seen in a case is seen several times.
+//! a carrier's agents and about an inspector, such seeds that every thing which
+//! can be seen in a case is seen several times, and arrivals of the greatest
+//! length.
 
 use super::carriers;
 use super::cover::{seen, Cover};
@@ -9,6 +10,7 @@ use super::heavy::{ESTIMATE, NET};
 use super::inspectors;
 use super::ledgers;
 use super::letters::every_set;
+use super::limits;
 use super::Kind;
 use std::collections::BTreeMap;
 
@@ -92,6 +94,14 @@ pub fn fixed(kind: Kind) -> Vec<Vec<u8>> {
     }
 }
 
+/// The cases that a kind ends with. Seeds are chosen without regard to them.
+fn last(kind: Kind) -> Vec<Vec<u8>> {
+    match kind {
+        Kind::Listing => vec![],
+        Kind::Script => as_bytes(vec![limits::arrival_lengths().text]),
+    }
+}
+
 /// The stored cases of a kind, and what they cover.
 pub fn choose(kind: Kind) -> (Vec<Vec<u8>>, Cover) {
     let plan = match kind {
@@ -119,5 +129,9 @@ pub fn choose(kind: Kind) -> (Vec<Vec<u8>>, Cover) {
         }
     }
     cases.extend(chosen.into_values());
+    for case in last(kind) {
+        cover.add(&seen(kind, &case));
+        cases.push(case);
+    }
     (cases, cover)
 }
