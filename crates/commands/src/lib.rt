@@ -1,7 +1,21 @@
-//! The command rows of an engine script: what each says, as numbers.
+//! The commands of an engine script, as they come: what each says, as numbers.
+ghost use mathlib.Core.Path.{_≡_};
+ghost use Prim.Native.Nat.{_<_, _≤_};
+ghost use lib.ListN.{length};
+ghost use Rattle.script_rows.specs.Window.{Within};
 ghost use Rattle.text.specs.Pieces.{Cut};
+use script_rows::END;
+use script_rows::FAILED;
+use script_rows::FULL;
+use script_rows::Window;
 use text::EDGES;
 use text::Spelled;
+
+// The most bytes of a command row.
+pub const ROW_LIMIT: usize = 1048576;
+
+// The most bytes of an arrival's rows.
+pub const ARRIVAL_LIMIT: usize = 65536;
 
 // A command: its kind, and its three numbers where it has them.
 pub struct Command {
@@ -24,6 +38,21 @@ pub const READY: u8 = 4;
 pub const BRING: u8 = 5;
 
 pub const WITHDRAW: u8 = 6;
+
+// A `bring` whose rows are more than the limit.
+pub const OVERLONG: u8 = 7;
+
+// Kinds from here on end a run: the input has ended, and there is no command.
+pub const NONE: u8 = 8;
+
+// A read of the input failed.
+pub const UNREAD: u8 = 9;
+
+// What an input asks next, and where: the rows of a `bring` stand from `from` to `row`.
+pub struct Asked {
+    pub command: Command,
+    pub window: Window,
+}
 
 // The kind of a command with three numbers, by its name.
 fn kind_of(f: &[u8]) -> u8 {
@@ -89,7 +118,7 @@ fn with_numbers(row: &[u8]) -> Command {
 }
 
 // What a row commands.
-pub fn read(row: &[u8]) -> Command {
+fn read(row: &[u8]) -> Command {
     if text::same(row, b"bring") {
         return bare(BRING);
     }
@@ -100,4 +129,93 @@ pub fn read(row: &[u8]) -> Command {
         return bare(WITHDRAW);
     }
     with_numbers(row)
+}
+
+// The command at the end of the input: bytes that no 0A ends are no row.
+fn at_end(w: Window) -> Command {
+    if w.from == w.row {
+        return bare(NONE);
+    }
+    bare(BAD)
+}
+
+// The command of a row that is there. Longer than the limit is none.
+fn of_row(buf: &[u8], w: Window) -> Command
+    requires { ⌜ Within w (now buf) × (w .row < w .next) ⌝ }
+{
+    let row = w.row;
+    let end = w.next - 1;
+    if ROW_LIMIT < end - row {
+        return bare(BAD);
+    }
+    read(&buf[row..end])
+}
+
+// The command of what was found.
+fn of_found(buf: &[u8], w: Window) -> Command
+    requires { ⌜ Within w (now buf) × (w .found ≡ 0 → w .row < w .next) ⌝ }
+{
+    if w.found == script_rows::ROW {
+        return of_row(buf, w);
+    }
+    if w.found == END {
+        return at_end(w);
+    }
+    if w.found == FAILED {
+        return bare(UNREAD);
+    }
+    bare(BAD)
+}
+
+// A `bring` behind its rows: those that stand from `from` to `row`.
+fn brought(w: Window) -> Command
+    requires { ⌜ w .from ≤ w .row ⌝ }
+{
+    if w.found == FAILED {
+        return bare(UNREAD);
+    }
+    if ARRIVAL_LIMIT < w.row - w.from {
+        return bare(OVERLONG);
+    }
+    bare(BRING)
+}
+
+// A `bring` whose rows do not fit into the buffer, behind its row `.`.
+fn passed_over(w: Window) -> Command {
+    if w.found == FAILED {
+        return bare(UNREAD);
+    }
+    bare(OVERLONG)
+}
+
+// A `bring` with its rows, up to the next row `.` or the end of the input.
+fn with_rows(buf: &mut [u8], last: Window) -> Asked
+    requires { ⌜ Within last (now buf) ⌝ }
+    ensures { λ r. ⌜ Within (r .window) (now (buf .exit)) ⌝ }
+{
+    let w = script_rows::dot(buf, script_rows::passed(last));
+    if w.found == FULL {
+        let behind = script_rows::dot_alone(buf, w);
+        return Asked {
+            command: passed_over(behind),
+            window: behind,
+        };
+    }
+    Asked {
+        command: brought(w),
+        window: w,
+    }
+}
+
+// What the input asks next.
+pub fn next(buf: &mut [u8], last: Window) -> Asked
+    requires { ⌜ Within last (now buf) ⌝ }
+    ensures { λ r. ⌜ Within (r .window) (now (buf .exit)) ⌝ }
+{
+    let w = script_rows::row_alone(buf, last);
+    let command = of_found(buf, w);
+    if command.kind == BRING {
+        return with_rows(buf, w);
+    }
+    Asked { command, window: w }
 }

@@ -1,4 +1,4 @@
-//! An engine's state as rows on standard output.
+//! An engine's state as rows on standard output; a function that prints answers false where that failed.
 //! A function that writes into a lent buffer does so from `at` on and answers the place behind what it wrote.
 ghost use mathlib.Core.Path.{_≡_};
 ghost use Prim.Native.Nat.{_+_, _*_, _<_, _≤_};
@@ -108,7 +108,7 @@ fn put_bindings(out: &mut [u8], at: usize, th: Thread) -> usize
 }
 
 // A thread: its site, its policy, its line, its bindings.
-fn say_thread(th: Thread) {
+fn say_thread(th: Thread) -> bool {
     let mut out = [0u8; 896];
     let site = th.site;
     let a = put_text(&mut out, 0, b"thread,s");
@@ -121,18 +121,21 @@ fn say_thread(th: Thread) {
     let g = put_byte(&mut out, f, b',');
     let h = put_bindings(&mut out, g, th);
     let end = put_byte(&mut out, h, b'\n');
-    say_first(&out, end);
+    say_first(&out, end)
 }
 
 // The first n threads.
-fn say_threads(items: [Thread; 64], n: usize)
+fn say_threads(items: [Thread; 64], n: usize) -> bool
     requires { ⌜ n ≤ 64 ⌝ }
 {
     let mut k: usize = 0;
     while k < n {
-        say_thread(items[k]);
+        if !say_thread(items[k]) {
+            return false;
+        }
         k += 1;
     }
+    true
 }
 
 // How many sites a tuple has.
@@ -170,12 +173,12 @@ fn put_sites(out: &mut [u8], at: usize, row: [u8; 6]) -> usize
 }
 
 // A tuple: its site, its fields.
-fn say_tuple(row: [u8; 6]) {
+fn say_tuple(row: [u8; 6]) -> bool {
     let mut out = [0u8; 80];
     let a = put_text(&mut out, 0, b"tuple");
     let b = put_sites(&mut out, a, row);
     let end = put_byte(&mut out, b, b'\n');
-    say_first(&out, end);
+    say_first(&out, end)
 }
 
 // The bytes of tuple i.
@@ -194,14 +197,17 @@ fn tuple_at(rows: &[u8; 1536], i: usize) -> [u8; 6]
 }
 
 // The first n tuples.
-fn say_tuples(rows: &[u8; 1536], n: usize)
+fn say_tuples(rows: &[u8; 1536], n: usize) -> bool
     requires { ⌜ (n ≤ 256) × (length (now rows) ≡ 1536) ⌝ }
 {
     let mut i: usize = 0;
     while i < n {
-        say_tuple(tuple_at(rows, i));
+        if !say_tuple(tuple_at(rows, i)) {
+            return false;
+        }
         i += 1;
     }
+    true
 }
 
 // A root's line behind its comma.
@@ -228,18 +234,18 @@ fn put_roots(out: &mut [u8], at: usize, roots: [u8; 256], n: usize) -> usize
 }
 
 // The first n roots.
-fn say_roots(roots: [u8; 256], n: usize)
+fn say_roots(roots: [u8; 256], n: usize) -> bool
     requires { ⌜ n ≤ 256 ⌝ }
 {
     let mut out = [0u8; 2832];
     let a = put_text(&mut out, 0, b"roots");
     let b = put_roots(&mut out, a, roots, n);
     let end = put_byte(&mut out, b, b'\n');
-    say_first(&out, end);
+    say_first(&out, end)
 }
 
 // How many threads, tuples and lines there are.
-fn say_counts(threads: usize, tuples: usize, lines: usize) {
+fn say_counts(threads: usize, tuples: usize, lines: usize) -> bool {
     let mut out = [0u8; 48];
     let a = put_text(&mut out, 0, b"state,");
     let b = put_count(&mut out, a, threads);
@@ -248,20 +254,35 @@ fn say_counts(threads: usize, tuples: usize, lines: usize) {
     let e = put_byte(&mut out, d, b',');
     let f = put_count(&mut out, e, lines);
     let end = put_byte(&mut out, f, b'\n');
-    say_first(&out, end);
+    say_first(&out, end)
+}
+
+// The lines, and the roots of what was brought.
+fn say_lines(state: State) -> bool
+    requires { ⌜ Fits state ⌝ }
+{
+    if !answers::say_count(b"lines,", state.nlines) {
+        return false;
+    }
+    let roots = state.arrivals;
+    say_roots(roots, state.narrivals)
 }
 
 // The whole state: its sizes, its threads, its tuples, its lines, the roots of what was brought.
-pub fn say_state(state: State)
+pub fn say_state(state: State) -> bool
     requires { ⌜ Fits state ⌝ }
 {
     let n = state.run.nthreads;
     let m = state.run.ntuples;
-    say_counts(n, m, state.nlines);
+    if !say_counts(n, m, state.nlines) {
+        return false;
+    }
     let items = state.run.threads;
-    say_threads(items, n);
-    say_tuples(&state.tuples, m);
-    answers::say_count(b"lines,", state.nlines);
-    let roots = state.arrivals;
-    say_roots(roots, state.narrivals);
+    if !say_threads(items, n) {
+        return false;
+    }
+    if !say_tuples(&state.tuples, m) {
+        return false;
+    }
+    say_lines(state)
 }

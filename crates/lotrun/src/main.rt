@@ -1,14 +1,26 @@
-// Runs an engine script: net rows, a row `.`, estimate rows, a row `.` and commands on standard input; one row for each command,
-// then the state, on standard output.
+// Runs an engine script from the file that its argument names or from standard input: net rows, a row `.`, estimate rows, a row `.`
+// and commands; one row for each command as soon as it is there, and at the end the state, on standard output.
+use streams::Ending;
 
-// Room for one byte past the limit, so that a longer input is seen to be longer. A function of its own keeps the million zeros
-// out of what is to be proved of `main`.
-fn room() -> [u8; 1048577] {
-    [0; 1048577]
+// A function of its own keeps the million zeros out of what is to be proved of its caller.
+fn room() -> [u8; scripts::ROOM] {
+    [0; scripts::ROOM]
+}
+
+fn run(fd: i32) -> Ending {
+    let mut buffer = room();
+    scripts::run(&mut buffer, script_rows::unread(fd))
 }
 
 fn main() {
-    let mut buffer = room();
-    let n = io::read_full(libc::STDIN_FILENO, &mut buffer);
-    scripts::run(&buffer[..n]);
+    let mut name = io::buffer();
+    let source = streams::open(
+        b"lotrun",
+        b"usage: lotrun [FILE]\nRuns an engine script from FILE, or from standard input: the rows of a net, a row `.`, the rows of an estimate, a row `.`,\nthen commands, each answered with a row as soon as it is there:\nstep,K,M,R  guarded,K,M,R  ready  door,R,L,D  withdraw  bring (the rows of an arrival and a row `.` behind it)\nAt the end of the input the state is printed.\n",
+        &mut name,
+    );
+    if source.ready {
+        let n = source.length;
+        streams::tell_ending(b"lotrun", &name[..n], run(source.fd));
+    }
 }

@@ -21,6 +21,9 @@ array-copy-out-say-thread c = search needs
 say-thread-requires : tie.Need-say-thread-requires Inv-loop μ-loop
 say-thread-requires c κs = search needs
 
+returns : tie.Need-returns Inv-loop μ-loop
+returns c = search needs
+
 add-k : tie.Need-add-k Inv-loop μ-loop
 add-k c = search needs
 
@@ -30,8 +33,8 @@ loop-less c = search needs
 loop-again : tie.Need-loop-again Inv-loop μ-loop
 loop-again c = search needs
 
-returns : tie.Need-returns Inv-loop μ-loop
-returns c = search needs
+returns-2 : tie.Need-returns-2 Inv-loop μ-loop
+returns-2 c = search needs
 
 pub say-threads-spec : {M : Type 1} → statement M
 say-threads-spec =
@@ -43,7 +46,8 @@ say-threads-spec =
     mul-say-thread
     array-copy-out-say-thread
     say-thread-requires
+    returns
     add-k
     loop-less
     loop-again
-    returns)
+    returns-2)

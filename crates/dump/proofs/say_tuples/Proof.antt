@@ -20,6 +20,9 @@ tuple-at-requires c κs = search needs
 say-tuple-requires : tie.Need-say-tuple-requires Inv-loop μ-loop
 say-tuple-requires c κs = search needs
 
+returns : tie.Need-returns Inv-loop μ-loop
+returns c = search needs
+
 add-i : tie.Need-add-i Inv-loop μ-loop
 add-i c = search needs
 
@@ -29,8 +32,8 @@ loop-less c = search needs
 loop-again : tie.Need-loop-again Inv-loop μ-loop
 loop-again c = search needs
 
-returns : tie.Need-returns Inv-loop μ-loop
-returns c = search needs
+returns-2 : tie.Need-returns-2 Inv-loop μ-loop
+returns-2 c = search needs
 
 pub say-tuples-spec : {M : Type 1} → statement M
 say-tuples-spec =
@@ -41,7 +44,8 @@ say-tuples-spec =
     loop-holds
     tuple-at-requires
     say-tuple-requires
+    returns
     add-i
     loop-less
     loop-again
-    returns)
+    returns-2)

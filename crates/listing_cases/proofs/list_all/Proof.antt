@@ -1,5 +1,3 @@
--- The place lies within the bytes, and no more cases were run than bytes passed.
--- Assumes nothing.
 use Prim.Native.Nat.{_-_, _≤_}
 use lib.ListN.{length}
 use borrow.Author.Needs.{needs}
@@ -36,6 +34,9 @@ part-list-case-end c = search needs
 list-case-requires : tie.Need-list-case-requires Inv-loop μ-loop
 list-case-requires c κs = search needs
 
+returns-2 : tie.Need-returns-2 Inv-loop μ-loop
+returns-2 c = search needs
+
 add-k : tie.Need-add-k Inv-loop μ-loop
 add-k c = search needs
 
@@ -45,8 +46,8 @@ loop-less c = search needs
 loop-again : tie.Need-loop-again Inv-loop μ-loop
 loop-again c = search needs
 
-returns-2 : tie.Need-returns-2 Inv-loop μ-loop
-returns-2 c = search needs
+returns-3 : tie.Need-returns-3 Inv-loop μ-loop
+returns-3 c = search needs
 
 pub list-all-spec : {M : Type 1} → statement M
 list-all-spec =
@@ -62,7 +63,8 @@ list-all-spec =
     part-list-case-start
     part-list-case-end
     list-case-requires
+    returns-2
     add-k
     loop-less
     loop-again
-    returns-2)
+    returns-3)

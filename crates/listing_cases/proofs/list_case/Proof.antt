@@ -9,20 +9,23 @@ slice-aggregate-say-count c = search needs
 say-count-requires : tie.Need-say-count-requires
 say-count-requires c κs = search needs
 
+returns : tie.Need-returns
+returns c = search needs
+
 list-requires : tie.Need-list-requires
 list-requires c κs = search needs
 
 array-share-prefix-output : tie.Need-array-share-prefix-output
 array-share-prefix-output c = written-in (c .list .ensures .0)
 
-slice-aggregate-write-all : tie.Need-slice-aggregate-write-all
-slice-aggregate-write-all c = written-count (c .before .list .ensures .0)
+slice-aggregate-write : tie.Need-slice-aggregate-write
+slice-aggregate-write c = written-count (c .before .list .ensures .0)
 
-write-all-requires : tie.Need-write-all-requires
-write-all-requires c κs = search needs
+write-requires : tie.Need-write-requires
+write-requires c κs = search needs
 
-returns : tie.Need-returns
-returns c = search needs
+returns-2 : tie.Need-returns-2
+returns-2 c = search needs
 
 pub list-case-spec : {M : Type 1} → statement M
 list-case-spec =
@@ -30,8 +33,9 @@ list-case-spec =
     (tie.spec
     slice-aggregate-say-count
     say-count-requires
+    returns
     list-requires
     array-share-prefix-output
-    slice-aggregate-write-all
-    write-all-requires
-    returns)
+    slice-aggregate-write
+    write-requires
+    returns-2)

@@ -1,49 +1,68 @@
 use borrow.Author.Needs.{needs}
-use Rattle.parts.proofs.Parts.{front-long}
 use Rattle.scripts.proofs.run.Statement.{statement}
 use Rattle.scripts.proofs.run.Tie as tie
 
-say-refused-requires : tie.Need-say-refused-requires
-say-refused-requires c κs = search needs
+read-head-requires : tie.Need-read-head-requires
+read-head-requires c κs = search needs
+
+same-length : tie.Need-same-length
+same-length c = search needs
 
 returns : tie.Need-returns
 returns c = search needs
 
-before-requires : tie.Need-before-requires
-before-requires c κs = search needs
+is-long-requires : tie.Need-is-long-requires
+is-long-requires c κs = search needs
 
-behind-requires : tie.Need-behind-requires
-behind-requires c κs = search needs
+say-refused-requires : tie.Need-say-refused-requires
+say-refused-requires c κs = search needs
 
-slice-aggregate-run-behind : tie.Need-slice-aggregate-run-behind
-slice-aggregate-run-behind c = front-long _ (c .before .before .before .before .before .args .input .now) (c .before .before .before2 .ensures)
+ended-requires : tie.Need-ended-requires
+ended-requires c κs = search needs
 
-sub-run-behind : tie.Need-sub-run-behind
-sub-run-behind c = search needs
-
-part-run-behind-start : tie.Need-part-run-behind-start
-part-run-behind-start c = search needs
-
-part-run-behind-end : tie.Need-part-run-behind-end
-part-run-behind-end c = search needs
-
-run-behind-requires : tie.Need-run-behind-requires
-run-behind-requires c κs = search needs
+same-length-2 : tie.Need-same-length-2
+same-length-2 c = search needs
 
 returns-2 : tie.Need-returns-2
 returns-2 c = search needs
+
+sub-begin : tie.Need-sub-begin
+sub-begin c = search needs
+
+part-begin-start : tie.Need-part-begin-start
+part-begin-start c = search needs
+
+part-begin-end : tie.Need-part-begin-end
+part-begin-end c = search needs
+
+begin-requires : tie.Need-begin-requires
+begin-requires c κs = search needs
+
+carry-on-requires : tie.Need-carry-on-requires
+carry-on-requires c κs = search needs
+
+same-length-3 : tie.Need-same-length-3
+same-length-3 c = search needs
+
+returns-3 : tie.Need-returns-3
+returns-3 c = search needs
 
 pub run-spec : {M : Type 1} → statement M
 run-spec =
     tie.close
     (tie.spec
-    say-refused-requires
+    read-head-requires
+    same-length
     returns
-    before-requires
-    behind-requires
-    slice-aggregate-run-behind
-    sub-run-behind
-    part-run-behind-start
-    part-run-behind-end
-    run-behind-requires
-    returns-2)
+    is-long-requires
+    say-refused-requires
+    ended-requires
+    same-length-2
+    returns-2
+    sub-begin
+    part-begin-start
+    part-begin-end
+    begin-requires
+    carry-on-requires
+    same-length-3
+    returns-3)

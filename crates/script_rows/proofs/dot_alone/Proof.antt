@@ -1,0 +1,63 @@
+use mathlib.Core.Path.{_≡_}
+use lib.ListN.{length}
+use Rattle.script_rows.specs.Window.{Within}
+use borrow.Author.Needs.{needs}
+use Rattle.script_rows.proofs.dot_alone.Statement.{statement}
+use Rattle.script_rows.proofs.dot_alone.Tie as tie
+
+abbrev Inv-loop : tie.InvT-loop
+Inv-loop buf₀ w₀ turns₀ buf w turns = Within w buf × (length buf ≡ length buf₀)
+
+abbrev μ-loop : tie.MeasureT-loop
+μ-loop buf₀ w₀ turns₀ buf w turns = turns
+
+found-requires : tie.Need-found-requires Inv-loop μ-loop
+found-requires c κs = search needs
+
+loop-holds : tie.Need-loop-holds Inv-loop μ-loop
+loop-holds c = search needs
+
+is-other-requires : tie.Need-is-other-requires Inv-loop μ-loop
+is-other-requires c κs = search needs
+
+row-alone-requires : tie.Need-row-alone-requires Inv-loop μ-loop
+row-alone-requires c κs = search needs
+
+sub-turns : tie.Need-sub-turns Inv-loop μ-loop
+sub-turns c = search needs
+
+loop-less : tie.Need-loop-less Inv-loop μ-loop
+loop-less c = search needs
+
+loop-again : tie.Need-loop-again Inv-loop μ-loop
+loop-again c = search needs
+
+same-length : tie.Need-same-length Inv-loop μ-loop
+same-length c = search needs
+
+returns : tie.Need-returns Inv-loop μ-loop
+returns c = search needs
+
+same-length-2 : tie.Need-same-length-2 Inv-loop μ-loop
+same-length-2 c = search needs
+
+returns-2 : tie.Need-returns-2 Inv-loop μ-loop
+returns-2 c = search needs
+
+pub dot-alone-spec : {M : Type 1} → statement M
+dot-alone-spec =
+    tie.close
+    (tie.spec
+    Inv-loop
+    μ-loop
+    found-requires
+    loop-holds
+    is-other-requires
+    row-alone-requires
+    sub-turns
+    loop-less
+    loop-again
+    same-length
+    returns
+    same-length-2
+    returns-2)

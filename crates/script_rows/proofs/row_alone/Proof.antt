@@ -1,0 +1,50 @@
+use borrow.Author.Needs.{needs}
+use Rattle.script_rows.proofs.row_alone.Statement.{statement}
+use Rattle.script_rows.proofs.row_alone.Tie as tie
+
+passed-requires : tie.Need-passed-requires
+passed-requires c κs = search needs
+
+next-row-requires : tie.Need-next-row-requires
+next-row-requires c κs = search needs
+
+same-length : tie.Need-same-length
+same-length c = search needs
+
+returns : tie.Need-returns
+returns c =
+    let next = c .before .before .before .before .next-row .ensures in
+    (next .0, λ q. next .1 q .1)
+
+pass-over-requires : tie.Need-pass-over-requires
+pass-over-requires c κs = search needs
+
+same-length-2 : tie.Need-same-length-2
+same-length-2 c = search needs
+
+returns-2 : tie.Need-returns-2
+returns-2 c = search needs
+
+found-requires : tie.Need-found-requires
+found-requires c κs = search needs
+
+same-length-3 : tie.Need-same-length-3
+same-length-3 c = search needs
+
+returns-3 : tie.Need-returns-3
+returns-3 c = search needs
+
+pub row-alone-spec : {M : Type 1} → statement M
+row-alone-spec =
+    tie.close
+    (tie.spec
+    passed-requires
+    next-row-requires
+    same-length
+    returns
+    pass-over-requires
+    same-length-2
+    returns-2
+    found-requires
+    same-length-3
+    returns-3)
