@@ -2,7 +2,8 @@
 ghost use mathlib.Core.Path.{_≡_};
 ghost use Prim.Native.Nat.{_<_, _≤_};
 ghost use lib.ListN.{length};
-ghost use Rattle.script_rows.specs.Window.{Within};
+ghost use Rattle.script_rows.specs.Window.{rowThere, Within};
+ghost use Rattle.commands.specs.Asked.{Told};
 ghost use Rattle.text.specs.Pieces.{Cut};
 use script_rows::END;
 use script_rows::FAILED;
@@ -69,7 +70,9 @@ fn kind_of(f: &[u8]) -> u8 {
 }
 
 // A command that has no numbers.
-fn bare(kind: u8) -> Command {
+fn bare(kind: u8) -> Command
+    ensures { λ r. ⌜ r .kind ≡ kind ⌝ }
+{
     Command {
         kind,
         a: 0,
@@ -153,7 +156,8 @@ fn of_row(buf: &[u8], w: Window) -> Command
 
 // The command of what was found.
 fn of_found(buf: &[u8], w: Window) -> Command
-    requires { ⌜ Within w (now buf) × (w .found ≡ 0 → w .row < w .next) ⌝ }
+    requires { ⌜ Within w (now buf) × (w .found ≡ rowThere → w .row < w .next) ⌝ }
+    ensures { λ r. ⌜ Told w r ⌝ }
 {
     if w.found == script_rows::ROW {
         return of_row(buf, w);
@@ -170,6 +174,7 @@ fn of_found(buf: &[u8], w: Window) -> Command
 // A `bring` behind its rows: those that stand from `from` to `row`.
 fn brought(w: Window) -> Command
     requires { ⌜ w .from ≤ w .row ⌝ }
+    ensures { λ r. ⌜ Told w r ⌝ }
 {
     if w.found == FAILED {
         return bare(UNREAD);
@@ -181,7 +186,9 @@ fn brought(w: Window) -> Command
 }
 
 // A `bring` whose rows do not fit into the buffer, behind its row `.`.
-fn passed_over(w: Window) -> Command {
+fn passed_over(w: Window) -> Command
+    ensures { λ r. ⌜ Told w r ⌝ }
+{
     if w.found == FAILED {
         return bare(UNREAD);
     }
@@ -191,7 +198,7 @@ fn passed_over(w: Window) -> Command {
 // A `bring` with its rows, up to the next row `.` or the end of the input.
 fn with_rows(buf: &mut [u8], last: Window) -> Asked
     requires { ⌜ Within last (now buf) ⌝ }
-    ensures { λ r. ⌜ Within (r .window) (now (buf .exit)) ⌝ }
+    ensures { λ r. ⌜ Within (r .window) (now (buf .exit)) × Told (r .window) (r .command) ⌝ }
 {
     let w = script_rows::dot(buf, script_rows::passed(last));
     if w.found == FULL {
@@ -210,7 +217,7 @@ fn with_rows(buf: &mut [u8], last: Window) -> Asked
 // What the input asks next.
 pub fn next(buf: &mut [u8], last: Window) -> Asked
     requires { ⌜ Within last (now buf) ⌝ }
-    ensures { λ r. ⌜ Within (r .window) (now (buf .exit)) ⌝ }
+    ensures { λ r. ⌜ Within (r .window) (now (buf .exit)) × Told (r .window) (r .command) ⌝ }
 {
     let w = script_rows::row_alone(buf, last);
     let command = of_found(buf, w);

@@ -2,7 +2,8 @@
 ghost use mathlib.Core.Path.{_≡_};
 ghost use Prim.Native.Nat.{_+_, _<_, _≤_};
 ghost use lib.ListN.{length};
-ghost use Rattle.script_rows.specs.Window.{Within, Finds, Gains};
+ghost use Rattle.script_rows.specs.Window.{rowThere, inputEnded, moreToCome, Within, Kept, Found, Alone, dotRow, Dotted, Seeks, Turned, Roomy, Given, Read};
+use streams::Got;
 
 // The bytes of the input from `from` to `to` are in the buffer; those before are done with. The row that was asked for begins
 // at `row` and ends at `next`, its 0A included. While its end is looked for, `next` says how far.
@@ -77,7 +78,7 @@ pub fn passed(last: Window) -> Window
 
 // The window at the end of the input.
 fn at_end(last: Window) -> Window
-    ensures { λ r. ⌜ (r .found ≡ 1) × (r .from ≡ last .from) × (r .row ≡ last .to) × (r .next ≡ last .to) × (r .to ≡ last .to) ⌝ }
+    ensures { λ r. ⌜ (r .found ≡ inputEnded) × (r .from ≡ last .from) × (r .row ≡ last .to) × (r .next ≡ last .to) × (r .to ≡ last .to) ⌝ }
 {
     let mut w = last;
     w.open = false;
@@ -96,9 +97,32 @@ fn found(last: Window, what: u8) -> Window
     w
 }
 
+// The window with the row found that ends at `end`.
+fn ended(last: Window, end: usize) -> Window
+    requires { ⌜ end < last .to ⌝ }
+    ensures { λ r. ⌜ (r .found ≡ rowThere) × (r .from ≡ last .from) × (r .row ≡ last .row) × (r .next ≡ end + 1) × (r .to ≡ last .to) ⌝ }
+{
+    let mut w = last;
+    w.found = ROW;
+    w.next = end + 1;
+    w
+}
+
+// The window with n bytes more, and the end of the row to be looked for in them.
+fn extended(last: Window, n: usize) -> Window
+    requires { ⌜ last .to + n < 18446744073709551616 ⌝ }
+    ensures { λ r. ⌜ (r .found ≡ moreToCome) × (r .from ≡ last .from) × (r .row ≡ last .row) × (r .next ≡ last .next) × (r .to ≡ last .to + n) ⌝ }
+{
+    let mut w = last;
+    w.found = MORE;
+    w.to = w.to + n;
+    w
+}
+
 // Moves the bytes from `from` to `to` to the start of the buffer.
 fn shift(buf: &mut [u8], from: usize, to: usize)
     requires { ⌜ (from ≤ to) × (to ≤ length (now buf)) ⌝ }
+    ensures { λ r. ⌜ Kept from to (now (buf .entry)) 0 (now (buf .exit)) ⌝ }
 {
     let n = to - from;
     let mut i: usize = 0;
@@ -111,9 +135,12 @@ fn shift(buf: &mut [u8], from: usize, to: usize)
 // The window with room behind it, unless what is kept fills the buffer.
 fn with_room(buf: &mut [u8], last: Window) -> Window
     requires { ⌜ Within last (now buf) ⌝ }
-    ensures { λ r. ⌜ Within r (now (buf .exit)) × (r .to + last .from ≡ last .to + r .from) × (r .next + last .from ≡ last .next + r .from) × (r .row + last .from ≡ last .row + r .from) ⌝ }
+    ensures { λ r. ⌜ Roomy last (now (buf .entry)) r (now (buf .exit)) ⌝ }
 {
     if last.to < buf.len() {
+        return last;
+    }
+    if last.from == 0 {
         return last;
     }
     let from = last.from;
@@ -127,52 +154,64 @@ fn with_room(buf: &mut [u8], last: Window) -> Window
     w
 }
 
-// Reads more behind what is there.
-fn read_more(buf: &mut [u8], last: Window) -> Window
-    requires { ⌜ Within last (now buf) ⌝ }
-    ensures { λ r. ⌜ Within r (now (buf .exit)) × Finds last r × Gains last r ⌝ }
+// The window behind a read.
+fn behind_read(last: Window, got: Got) -> Window
+    requires { ⌜ last .to + got .count < 18446744073709551616 ⌝ }
+    ensures { λ r. ⌜ Given last (got .failed) (got .count) r ⌝ }
 {
-    let to = last.to;
-    if to == buf.len() {
-        return found(last, FULL);
-    }
-    let got = streams::read(last.fd, &mut buf[to..]);
     if got.failed {
         return found(last, FAILED);
     }
     if got.count == 0 {
         return at_end(last);
     }
-    let mut w = found(last, MORE);
-    w.to = to + got.count;
-    w
+    extended(last, got.count)
+}
+
+// Reads more behind what is there.
+fn read_more(buf: &mut [u8], last: Window) -> Window
+    requires { ⌜ Within last (now buf) ⌝ }
+    ensures { λ r. ⌜ Read last (now (buf .entry)) r (now (buf .exit)) ⌝ }
+{
+    let to = last.to;
+    if to == buf.len() {
+        return found(last, FULL);
+    }
+    let got = streams::read(last.fd, &mut buf[to..]);
+    behind_read(last, got)
+}
+
+// Reads more, all that is there having been looked at.
+fn look_further(buf: &mut [u8], last: Window) -> Window
+    requires { ⌜ Seeks last (now buf) × (last .next ≡ last .to) ⌝ }
+    ensures { λ r. ⌜ Turned last (now (buf .entry)) r (now (buf .exit)) ⌝ }
+{
+    if !last.open {
+        return at_end(last);
+    }
+    let roomy = with_room(buf, last);
+    read_more(buf, roomy)
 }
 
 // Looks for the end of the row in what is there and was not looked at; reads more, where it is not there.
 fn look_on(buf: &mut [u8], last: Window) -> Window
-    requires { ⌜ Within last (now buf) ⌝ }
-    ensures { λ r. ⌜ Within r (now (buf .exit)) × Finds last r × Gains last r ⌝ }
+    requires { ⌜ Seeks last (now buf) ⌝ }
+    ensures { λ r. ⌜ Turned last (now (buf .entry)) r (now (buf .exit)) ⌝ }
 {
-    let mut w = last;
     let to = last.to;
     let end = text::row_end(&buf[..to], last.next);
     if end < to {
-        w.found = ROW;
-        w.next = end + 1;
-        return w;
+        return ended(last, end);
     }
+    let mut w = last;
     w.next = to;
-    if !last.open {
-        return at_end(w);
-    }
-    let roomy = with_room(buf, w);
-    read_more(buf, roomy)
+    look_further(buf, w)
 }
 
 // The next row. What stands from `from` on is kept.
 pub fn next_row(buf: &mut [u8], last: Window) -> Window
     requires { ⌜ Within last (now buf) ⌝ }
-    ensures { λ r. ⌜ Within r (now (buf .exit)) × Finds last r ⌝ }
+    ensures { λ r. ⌜ Found (last .from) (last .next) (last .to) (now (buf .entry)) r (now (buf .exit)) ⌝ }
 {
     let mut w = last;
     w.row = w.next;
@@ -202,7 +241,7 @@ fn pass_over(buf: &mut [u8], last: Window) -> Window
 // The next row, kept alone. One that does not fit into the buffer is passed over.
 pub fn row_alone(buf: &mut [u8], last: Window) -> Window
     requires { ⌜ Within last (now buf) ⌝ }
-    ensures { λ r. ⌜ Within r (now (buf .exit)) × (r .found ≡ 0 → r .row < r .next) ⌝ }
+    ensures { λ r. ⌜ Alone last (now (buf .entry)) r (now (buf .exit)) ⌝ }
 {
     let first = next_row(buf, passed(last));
     if first.found != FULL {
@@ -218,6 +257,7 @@ pub fn row_alone(buf: &mut [u8], last: Window) -> Window
 // Whether the row that was found is `.`.
 fn is_dot(buf: &[u8], w: Window) -> bool
     requires { ⌜ Within w (now buf) ⌝ }
+    ensures { λ r. ⌜ r ≡ dotRow w (now (buf .entry)) ⌝ }
 {
     if w.next - w.row != 2 {
         return false;
@@ -229,7 +269,7 @@ fn is_dot(buf: &[u8], w: Window) -> bool
 // The next row `.`. The rows before it are kept.
 pub fn dot(buf: &mut [u8], last: Window) -> Window
     requires { ⌜ Within last (now buf) ⌝ }
-    ensures { λ r. ⌜ Within r (now (buf .exit)) ⌝ }
+    ensures { λ r. ⌜ Dotted last (now (buf .entry)) r (now (buf .exit)) ⌝ }
 {
     let mut w = last;
     loop {

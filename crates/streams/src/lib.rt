@@ -9,6 +9,9 @@ use libc::STDERR_FILENO;
 use libc::STDIN_FILENO;
 use libc::STDOUT_FILENO;
 
+// Room for the name of a program, what it could not do, and the longest name of a file.
+const MESSAGE: usize = 4160;
+
 // What a read gave: a failure, or how many bytes came, 0 at the end of the input.
 pub struct Got {
     pub failed: bool,
@@ -41,9 +44,9 @@ fn got_of(answer: isize, buf: &[u8]) -> Got
     }
 }
 
-// Whether a call failed because a signal interrupted it.
-fn interrupted(answer: isize) -> bool {
-    if answer < 0 {
+// Whether a call that failed or not was interrupted by a signal.
+fn interrupted(failed: bool) -> bool {
+    if failed {
         return os::errno() == libc::EINTR;
     }
     false
@@ -56,7 +59,7 @@ pub fn read(fd: i32, buf: &mut [u8]) -> Got
     let mut turns = u64::MAX;
     while 0 < turns {
         let answer = libc::read(fd, buf);
-        if !interrupted(answer) {
+        if !interrupted(answer < 0) {
             return got_of(answer, buf);
         }
         turns -= 1;
@@ -101,7 +104,7 @@ fn write_some(bytes: &[u8]) -> usize
     let mut turns = u64::MAX;
     while 0 < turns {
         let answer = libc::write(STDOUT_FILENO, bytes);
-        if !interrupted(answer) {
+        if !interrupted(answer < 0) {
             return io::count(answer, bytes);
         }
         turns -= 1;
@@ -122,11 +125,37 @@ pub fn write(bytes: &[u8]) -> bool {
     true
 }
 
+// The lesser of two numbers.
+fn least(a: usize, b: usize) -> usize
+    ensures { λ r. ⌜ (r ≤ a) × (r ≤ b) ⌝ }
+{
+    if a < b {
+        return a;
+    }
+    b
+}
+
+// Puts a text behind the first `at` bytes of a buffer, as much of it as fits.
+fn put(out: &mut [u8], at: usize, text: &[u8]) -> usize
+    requires { ⌜ at ≤ length (now out) ⌝ }
+    ensures { λ r. ⌜ Counts r (now (out .exit)) ⌝ }
+{
+    let n = least(text.len(), out.len() - at);
+    let mut i: usize = 0;
+    while i < n {
+        out[at + i] = text[i];
+        i += 1;
+    }
+    at + i
+}
+
 // A row on standard error: the program, what it could not do, with what, and why, as the last call that failed has it.
 fn tell(program: &[u8], what: &[u8], name: &[u8]) {
-    io::write_all(STDERR_FILENO, program);
-    io::write_all(STDERR_FILENO, what);
-    os::fail(name);
+    let mut row = [0u8; MESSAGE];
+    let a = put(&mut row, 0, program);
+    let b = put(&mut row, a, what);
+    let n = put(&mut row, b, name);
+    os::fail(&row[..n]);
 }
 
 // Tells on standard error how a program's work ended, unless it was done. `name` is that of the file, or empty. No call that
@@ -177,11 +206,24 @@ fn helped(program: &[u8], help: &[u8]) -> Source
     nothing()
 }
 
-// Opens the file with this name.
+// Opens the file with this name: its descriptor, or a number below 0.
+fn open_file(name: &[u8]) -> i32 {
+    let mut turns = u64::MAX;
+    while 0 < turns {
+        let fd = os::open_read(name);
+        if !interrupted(fd < 0) {
+            return fd;
+        }
+        turns -= 1;
+    }
+    -1
+}
+
+// The file with this name, to be read.
 fn opened(program: &[u8], name: &[u8]) -> Source
     ensures { λ r. ⌜ r .length ≤ length (now (name .entry)) ⌝ }
 {
-    let fd = os::open_read(name);
+    let fd = open_file(name);
     if fd < 0 {
         tell(program, b": cannot open ", name);
         return nothing();

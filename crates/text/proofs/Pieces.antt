@@ -46,6 +46,46 @@ module _ (b : ℕ) (s : List ℕ) (i : ℕ) where
   unfolding split
   piece-end h = rw drop-of-length-le
 
+-- a piece has no separator in it, and one behind it unless the list ends there
+module _ (b : ℕ) (s : List ℕ) where
+  inside : (from n : ℕ) → length (pieceAt b s from) ≡ suc n → Dec (from < length s) → from < length s
+  inside from n e (yes h) = h
+  inside from n e (no h) = absurd (omega (arith, piece-end b s from (omega arith)))
+
+  shorter : (from n : ℕ) → length (pieceAt b s from) ≡ suc n → (getD s from 0 ≡ b → ⊥) × (length (pieceAt b s (from + 1)) ≡ n)
+  shorter from n e =
+      let h = inside from n e (decLt from (length s)) in
+      let miss : getD s from 0 ≡ b → ⊥ = λ q. omega (arith, piece-hit b s from h q) in
+      (miss, omega (arith, piece-miss b s from h miss))
+
+  first-or : (from i : ℕ) → (getD s from 0 ≡ b → ⊥) → (from + 1 ≤ i → getD s i 0 ≡ b → ⊥) → from ≤ i → Dec (from ≡ i) → getD s i 0 ≡ b → ⊥
+  first-or from i miss later l (yes p) q = miss (ap (λ (k : ℕ). getD s k 0) p ∙ q)
+  first-or from i miss later l (no p) q = later (omega arith) q
+
+  none-in : (n from : ℕ) → length (pieceAt b s from) ≡ n → (i : ℕ) → from ≤ i → i < from + n → getD s i 0 ≡ b → ⊥
+  none-in zero from e i l h q = absurd (omega arith)
+  none-in (suc n) from e i l h q =
+      let next = shorter from n e in
+      first-or from i (next .0) (λ m. none-in n (from + 1) (next .1) i m (omega arith)) l (ℕ-discrete from i) q
+
+  hit-here : (from : ℕ) → length (pieceAt b s from) ≡ 0 → from < length s → Dec (getD s from 0 ≡ b) → getD s from 0 ≡ b
+  hit-here from e h (yes q) = q
+  hit-here from e h (no q) = absurd (omega (arith, piece-miss b s from h q))
+
+  hit-behind : (n from : ℕ) → length (pieceAt b s from) ≡ n → from + n < length s → getD s (from + n) 0 ≡ b
+  hit-behind zero from e h =
+      let place : from + 0 ≡ from = omega arith in
+      rw place (hit-here from e (omega arith) (ℕ-discrete (getD s from 0) b))
+  hit-behind (suc n) from e h =
+      let place : from + 1 + n ≡ from + suc n = omega arith in
+      rw (← place) (hit-behind n (from + 1) (shorter from n e .1) (omega arith))
+
+  pub end-none : (from i : ℕ) → from ≤ i → i < endOf b s from → getD s i 0 ≡ b → ⊥
+  end-none from i = none-in (length (pieceAt b s from)) from refl i
+
+  pub end-hit : (from : ℕ) → endOf b s from < length s → getD s (endOf b s from) 0 ≡ b
+  end-hit from = hit-behind (length (pieceAt b s from)) from refl
+
 le-after : (t : Bool) (x n : ℕ) (ps : List (List ℕ)) → 0 < length ps → length (at ps 0) ≤ n → length (at (piecesAfter t x ps) 0) ≤ suc n
 unfolding piecesAfter
 le-after true x n ps h q = omega arith

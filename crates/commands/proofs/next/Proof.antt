@@ -1,3 +1,4 @@
+use native.Mathlib.Omega.{arith}
 use borrow.Author.Needs.{needs}
 use Rattle.commands.proofs.next.Statement.{statement}
 use Rattle.commands.proofs.next.Tie as tie
@@ -6,7 +7,9 @@ row-alone-requires : tie.Need-row-alone-requires
 row-alone-requires c κs = search needs
 
 of-found-requires : tie.Need-of-found-requires
-of-found-requires c κs = c .before .before .before .row-alone .ensures
+of-found-requires c κs =
+    let alone = c .before .before .before .row-alone .ensures in
+    (alone .0, λ q. alone .1 (λ p. omega arith) (λ p. omega arith) .row q .1 .some)
 
 with-rows-requires : tie.Need-with-rows-requires
 with-rows-requires c κs = search needs

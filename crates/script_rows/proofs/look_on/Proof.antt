@@ -1,6 +1,10 @@
-use mathlib.Core.Path.{sym}
+use mathlib.Core.Path.{refl, sym}
 use native.Mathlib.Omega.{arith}
+use lib.ListN.{take}
 use lib.Seq.{length-take-le}
+use Rattle.klaim.specs.Rows.{newline}
+use Rattle.text.proofs.Pieces.{end-le}
+use Rattle.script_rows.proofs.Rows.{row-here, looked-all}
 use borrow.Author.Needs.{needs}
 use Rattle.script_rows.proofs.look_on.Statement.{statement}
 use Rattle.script_rows.proofs.look_on.Tie as tie
@@ -9,46 +13,48 @@ slice-reshare-prefix-row-end : tie.Need-slice-reshare-prefix-row-end
 slice-reshare-prefix-row-end c = search needs
 
 slice-aggregate-row-end : tie.Need-slice-aggregate-row-end
-slice-aggregate-row-end c = sym (length-take-le (c .before .before .args .last .to) (c .before .before .args .buf .now) (search needs))
+slice-aggregate-row-end c =
+    let s = c .before .before in
+    sym (length-take-le (s .args .last .to) (s .args .buf .now) (s .pre .within .3))
 
 row-end-requires : tie.Need-row-end-requires
 row-end-requires c κs = search needs
 
-add-w : tie.Need-add-w
-add-w c = search needs
+ended-requires : tie.Need-ended-requires
+ended-requires c κs = search needs
 
 same-length : tie.Need-same-length
 same-length c = search needs
 
 returns : tie.Need-returns
-returns c = search needs
+returns c =
+    let s = c .before .before .before .before .before in
+    let end = c .before .before .row-end in
+    row-here (end .result) (s .pre) (end .ensures) (c .before .if1 .taken) (omega (arith, end .ensures)) (c .ended .ensures)
 
-at-end-requires : tie.Need-at-end-requires
-at-end-requires c κs = search needs
+look-further-requires : tie.Need-look-further-requires
+look-further-requires c κs =
+    let s = c .before .before .before .before .before in
+    let last = s .args .last in
+    let buf = s .args .buf .now in
+    let end = c .before .before .row-end in
+    let in-order = s .pre .within in
+    let long = length-take-le (last .to) buf (in-order .3) in
+    let low = end-le newline (take (last .to) buf) (last .next) (omega (arith, long)) in (
+      record {
+        within = (in-order .0, omega arith, omega arith, in-order .3);
+        unended = looked-all (end .result) (s .pre) (end .ensures) (omega (arith, end .ensures, low, long)) (c .before .if1 .left);
+      },
+      refl,
+    )
 
 same-length-2 : tie.Need-same-length-2
 same-length-2 c = search needs
 
 returns-2 : tie.Need-returns-2
-returns-2 c = search needs
-
-with-room-requires : tie.Need-with-room-requires
-with-room-requires c κs = search needs
-
-read-more-requires : tie.Need-read-more-requires
-read-more-requires c κs = search needs
-
-same-length-3 : tie.Need-same-length-3
-same-length-3 c = search needs
-
-returns-3 : tie.Need-returns-3
-returns-3 c =
-    let more = c .before .before .read-more .ensures in
-    let roomy = c .before .before .before .before .before .before .with-room .ensures in (
-      more .0,
-      (λ q. (omega (arith, more .1 q .0, roomy .1, roomy .2), more .1 q .1)),
-      (λ q. (omega (arith, more .2 q .0, roomy .1), omega (arith, more .2 q .1, roomy .2))),
-    )
+returns-2 c =
+    let turned = c .before .before .look-further .ensures in
+    record { more = turned .more; found = turned .found }
 
 pub look-on-spec : {M : Type 1} → statement M
 look-on-spec =
@@ -57,13 +63,9 @@ look-on-spec =
     slice-reshare-prefix-row-end
     slice-aggregate-row-end
     row-end-requires
-    add-w
+    ended-requires
     same-length
     returns
-    at-end-requires
+    look-further-requires
     same-length-2
-    returns-2
-    with-room-requires
-    read-more-requires
-    same-length-3
-    returns-3)
+    returns-2)

@@ -1,3 +1,4 @@
+use Rattle.script_rows.proofs.Rows.{found-at}
 use borrow.Author.Needs.{needs}
 use Rattle.script_rows.proofs.row_alone.Statement.{statement}
 use Rattle.script_rows.proofs.row_alone.Tie as tie
@@ -14,7 +15,8 @@ same-length c = search needs
 returns : tie.Need-returns
 returns c =
     let next = c .before .before .before .before .next-row .ensures in
-    (next .0, λ q. next .1 q .1)
+    let passed = c .before .before .before .before .before .passed .ensures in
+    (next .within, λ _ _. found-at (passed .0) (passed .2) (passed .3) next)
 
 pass-over-requires : tie.Need-pass-over-requires
 pass-over-requires c κs = search needs

@@ -43,7 +43,9 @@ respond-requires : tie.Need-respond-requires Inv-loop μ-loop
 respond-requires c κs = search needs
 
 same-length-2 : tie.Need-same-length-2 Inv-loop μ-loop
-same-length-2 c = c .before .before .before .before .before .before .before .before .before .before .buf .given ∙ c .before .before .before .before .before .before .before .before .before .before .before .before .before .before .loop .inv .2
+same-length-2 c =
+    let asked = c .before .before .before .before .before .before .before .before .before .before in
+    asked .buf .given ∙ asked .before .before .before .before .loop .inv .2
 
 returns-2 : tie.Need-returns-2 Inv-loop μ-loop
 returns-2 c = search needs
@@ -55,7 +57,9 @@ loop-less : tie.Need-loop-less Inv-loop μ-loop
 loop-less c = search needs
 
 loop-again : tie.Need-loop-again Inv-loop μ-loop
-loop-again c = (c .before .before .before .before .before .before .before .before .before .before .before .next .ensures, c .before .before .obey .ensures, c .before .before .before .before .before .before .before .before .before .before .buf .given ∙ c .before .before .before .before .before .before .before .before .before .before .before .before .before .before .loop .inv .2)
+loop-again c =
+    let asked = c .before .before .before .before .before .before .before .before .before .before in
+    (asked .before .next .ensures .0, c .before .before .obey .ensures, asked .buf .given ∙ asked .before .before .before .before .loop .inv .2)
 
 finish-requires-2 : tie.Need-finish-requires-2 Inv-loop μ-loop
 finish-requires-2 c κs = search needs
