@@ -50,7 +50,9 @@ fn main() {
     let mut name = io::buffer();
     let source = streams::open(
         b"listing_cases",
-        b"usage: listing_cases [FILE]\nLists many cases from FILE, or from standard input: for each a row with its length in bytes, then as many bytes.\n",
+        b"usage: listing_cases [FILE]\n\
+        Prints the listings of many inputs of lotcheck. FILE, or else standard input,\n\
+        has for each a row with its length in bytes, and then as many bytes.\n",
         &mut name,
     );
     if source.ready {

@@ -24,7 +24,10 @@ fn main() {
     let mut name = io::buffer();
     let source = streams::open(
         b"lotcheck",
-        b"usage: lotcheck [FILE]\nChecks a net: reads its rows, a row `.` and the rows of an estimate, at most 65,536 bytes, from FILE or from standard input,\nand prints the listing: `accepted` with the rights that could be overstepped, `broken` or `refused`.\n",
+        b"usage: lotcheck [FILE]\n\
+        Checks a net against an estimate and prints the listing. FILE, or else standard\n\
+        input, has the rows of the net, a row `.` and the rows of the estimate, at most\n\
+        65,536 bytes.\n",
         &mut name,
     );
     if source.ready {

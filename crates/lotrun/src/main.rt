@@ -16,7 +16,13 @@ fn main() {
     let mut name = io::buffer();
     let source = streams::open(
         b"lotrun",
-        b"usage: lotrun [FILE]\nRuns an engine script from FILE, or from standard input: the rows of a net, a row `.`, the rows of an estimate, a row `.`,\nthen commands, each answered with a row as soon as it is there:\nstep,K,M,R  guarded,K,M,R  ready  door,R,L,D  withdraw  bring (the rows of an arrival and a row `.` behind it)\nAt the end of the input the state is printed.\n",
+        b"usage: lotrun [FILE]\n\
+        Runs a net in the engine. FILE, or else standard input, has the rows of the\n\
+        net, a row `.`, the rows of the estimate, a row `.`, and then commands, each\n\
+        answered as soon as it is there:\n\
+        step,K,M,R  guarded,K,M,R  ready  door,R,L,D  withdraw\n\
+        bring, and in rows of their own the arrival's rows and a row `.`\n\
+        At the end of the input the state is printed.\n",
         &mut name,
     );
     if source.ready {

@@ -58,7 +58,9 @@ fn main() {
     let mut name = io::buffer();
     let source = streams::open(
         b"script_cases",
-        b"usage: script_cases [FILE]\nRuns many engine scripts from FILE, or from standard input: for each a row with its length in bytes, then as many bytes.\n",
+        b"usage: script_cases [FILE]\n\
+        Runs many inputs of lotrun. FILE, or else standard input, has for each a row\n\
+        with its length in bytes, and then as many bytes.\n",
         &mut name,
     );
     if source.ready {

@@ -13,7 +13,7 @@ use Rattle.klaim.specs.Rows.{newline}
 use Rattle.text.specs.Pieces.{endOf}
 use Rattle.text.proofs.Pieces.{end-none, end-hit}
 use Rattle.script_rows.specs.declared.Window.{Window}
-use Rattle.script_rows.specs.Window.{Within, Kept, Unended, IsRow, Found, Seeks, Turned, Roomy, Given, Read}
+use Rattle.script_rows.specs.Window.{inputEnded, bufferFull, readFailed, moreToCome, Within, Kept, Unended, IsRow, Found, Seeks, Turned, Roomy, Given, Read}
 
 -- bytes before those that were read
 pub before-read : (n k : ℕ) (old read : List ℕ) → n ≤ length old → (i : ℕ) → i < n → getD (putMid n k old read) i 0 ≡ getD old i 0
@@ -25,41 +25,38 @@ pub given-some : (last w : Window) (n : ℕ) → (n ≡ 0 → ⊥) → (w .found
 given-some last w zero some e = absurd (some refl)
 given-some last w (suc n) some e = e
 
--- what a read gave: nothing, as it failed; nothing, at the end of the input; or more
-pub read-given : {last w : Window} {old new : List ℕ} (failed : Bool) (n : ℕ) → Within last old → length new ≡ length old → ((i : ℕ) → i < last .to → getD new i 0 ≡ getD old i 0) → last .to + n ≤ length new → Given last failed n w → Read last old w new
-read-given true n in-order long same fits (found, from, row, next, to) = record {
-  within = (omega arith, omega arith, omega arith, omega arith);
-  long = long;
-  same = same;
-  from = from;
-  no-row = λ q. omega arith;
-  more = λ q. absurd (omega arith);
-  stop = λ q. to;
-  end = λ q. absurd (omega arith);
-  full = λ q. absurd (omega arith);
-}
-read-given false zero in-order long same fits (found, from, row, next, to) = record {
-  within = (omega arith, omega arith, omega arith, omega arith);
-  long = long;
-  same = same;
-  from = from;
-  no-row = λ q. omega arith;
-  more = λ q. absurd (omega arith);
-  stop = λ q. to;
-  end = λ q. omega arith;
-  full = λ q. absurd (omega arith);
-}
-read-given false (suc n) in-order long same fits (found, from, row, next, to) = record {
-  within = (omega arith, omega arith, omega arith, omega arith);
-  long = long;
-  same = same;
-  from = from;
-  no-row = λ q. omega arith;
-  more = λ q. (row, next, omega arith);
-  stop = λ q. absurd (q found);
-  end = λ q. absurd (omega arith);
-  full = λ q. absurd (omega arith);
-}
+-- what a read gave, which leaves the length and the bytes before it as they were
+module _ {last w : Window} {old new : List ℕ} (in-order : Within last old) (long : length new ≡ length old) (same : (i : ℕ) → i < last .to → getD new i 0 ≡ getD old i 0) where
+  -- nothing, at the end of the input or as it failed
+  read-none : (k : ℕ) → w .found ≡ k → 0 < k → k < moreToCome → (k ≡ bufferFull → ⊥) → w .from ≡ last .from → w .to ≡ last .to → Within w new → (w .found ≡ inputEnded → w .row ≡ w .to) → Read last old w new
+  read-none k found some less other from to within end = record {
+    within = within;
+    long = long;
+    same = same;
+    from = from;
+    no-row = λ q. omega arith;
+    more = λ q. absurd (omega arith);
+    stop = λ q. to;
+    end = end;
+    full = λ q. absurd (other (sym found ∙ q));
+  }
+
+  pub read-given : (failed : Bool) (n : ℕ) → last .to + n ≤ length new → Given last failed n w → Read last old w new
+  read-given true n fits (found, from, row, next, to) =
+      read-none readFailed found (omega arith) (omega arith) (λ q. omega arith) from to (omega arith, omega arith, omega arith, omega arith) (λ q. absurd (omega arith))
+  read-given false zero fits (found, from, row, next, to) =
+      read-none inputEnded found (omega arith) (omega arith) (λ q. omega arith) from to (omega arith, omega arith, omega arith, omega arith) (λ q. omega arith)
+  read-given false (suc n) fits (found, from, row, next, to) = record {
+    within = (omega arith, omega arith, omega arith, omega arith);
+    long = long;
+    same = same;
+    from = from;
+    no-row = λ q. omega arith;
+    more = λ q. (row, next, omega arith);
+    stop = λ q. absurd (q found);
+    end = λ q. absurd (omega arith);
+    full = λ q. absurd (omega arith);
+  }
 
 -- the end of a row looked for in the first bytes of a buffer
 module _ (buf : List ℕ) (to at : ℕ) (h : to ≤ length buf) where

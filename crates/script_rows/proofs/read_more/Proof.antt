@@ -36,11 +36,11 @@ returns-2 c =
     let old = s .args .buf .now in
     let read = c .before .before .before .read in
     read-given
-    (read .result .failed)
-    (read .result .count)
     (s .pre)
     (search needs)
     (before-read to (length old - to) old (read .last .1 .0) (s .pre .3))
+    (read .result .failed)
+    (read .result .count)
     (search needs)
     (c .behind-read .ensures)
 
