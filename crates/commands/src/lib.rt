@@ -3,7 +3,7 @@ ghost use mathlib.Core.Path.{_≡_};
 ghost use Prim.Native.Nat.{_<_, _≤_};
 ghost use lib.ListN.{length};
 ghost use Rattle.script_rows.specs.Window.{rowThere, Within};
-ghost use Rattle.commands.specs.Asked.{Told};
+ghost use Rattle.commands.specs.Asked.{none, Stops};
 ghost use Rattle.text.specs.Pieces.{Cut};
 use script_rows::END;
 use script_rows::FAILED;
@@ -56,7 +56,9 @@ pub struct Asked {
 }
 
 // The kind of a command with three numbers, by its name.
-fn kind_of(f: &[u8]) -> u8 {
+fn kind_of(f: &[u8]) -> u8
+    ensures { λ r. ⌜ r < none ⌝ }
+{
     if text::same(f, b"step") {
         return STEP;
     }
@@ -82,7 +84,10 @@ fn bare(kind: u8) -> Command
 }
 
 // A command of three numbers, bad where one is none.
-fn joined(kind: u8, a: Spelled, b: Spelled, c: Spelled) -> Command {
+fn joined(kind: u8, a: Spelled, b: Spelled, c: Spelled) -> Command
+    requires { ⌜ kind < none ⌝ }
+    ensures { λ r. ⌜ r .kind < none ⌝ }
+{
     if a.is {
         if b.is {
             if c.is {
@@ -101,6 +106,7 @@ fn joined(kind: u8, a: Spelled, b: Spelled, c: Spelled) -> Command {
 // A command of n fields.
 fn of_fields(row: &[u8], edges: &[usize; EDGES], n: usize) -> Command
     requires { ⌜ Cut (now row) (now edges) n ⌝ }
+    ensures { λ r. ⌜ r .kind < none ⌝ }
 {
     let kind = kind_of(text::field(row, edges, n, 0));
     let a = text::decimal(text::field(row, edges, n, 1));
@@ -113,7 +119,9 @@ fn of_fields(row: &[u8], edges: &[usize; EDGES], n: usize) -> Command
 }
 
 // A command that has fields.
-fn with_numbers(row: &[u8]) -> Command {
+fn with_numbers(row: &[u8]) -> Command
+    ensures { λ r. ⌜ r .kind < none ⌝ }
+{
     let mut edges = [0usize; EDGES];
     let cut = text::cut(row, 0, &mut edges);
     let end = cut.end;
@@ -121,7 +129,9 @@ fn with_numbers(row: &[u8]) -> Command {
 }
 
 // What a row commands.
-fn read(row: &[u8]) -> Command {
+fn read(row: &[u8]) -> Command
+    ensures { λ r. ⌜ r .kind < none ⌝ }
+{
     if text::same(row, b"bring") {
         return bare(BRING);
     }
@@ -135,7 +145,9 @@ fn read(row: &[u8]) -> Command {
 }
 
 // The command at the end of the input: bytes that no 0A ends are no row.
-fn at_end(w: Window) -> Command {
+fn at_end(w: Window) -> Command
+    ensures { λ r. ⌜ r .kind ≤ none ⌝ }
+{
     if w.from == w.row {
         return bare(NONE);
     }
@@ -145,6 +157,7 @@ fn at_end(w: Window) -> Command {
 // The command of a row that is there. Longer than the limit is none.
 fn of_row(buf: &[u8], w: Window) -> Command
     requires { ⌜ Within w (now buf) × (w .row < w .next) ⌝ }
+    ensures { λ r. ⌜ r .kind < none ⌝ }
 {
     let row = w.row;
     let end = w.next - 1;
@@ -157,7 +170,7 @@ fn of_row(buf: &[u8], w: Window) -> Command
 // The command of what was found.
 fn of_found(buf: &[u8], w: Window) -> Command
     requires { ⌜ Within w (now buf) × (w .found ≡ rowThere → w .row < w .next) ⌝ }
-    ensures { λ r. ⌜ Told w r ⌝ }
+    ensures { λ r. ⌜ Stops w r ⌝ }
 {
     if w.found == script_rows::ROW {
         return of_row(buf, w);
@@ -174,7 +187,7 @@ fn of_found(buf: &[u8], w: Window) -> Command
 // A `bring` behind its rows: those that stand from `from` to `row`.
 fn brought(w: Window) -> Command
     requires { ⌜ w .from ≤ w .row ⌝ }
-    ensures { λ r. ⌜ Told w r ⌝ }
+    ensures { λ r. ⌜ Stops w r ⌝ }
 {
     if w.found == FAILED {
         return bare(UNREAD);
@@ -187,7 +200,7 @@ fn brought(w: Window) -> Command
 
 // A `bring` whose rows do not fit into the buffer, behind its row `.`.
 fn passed_over(w: Window) -> Command
-    ensures { λ r. ⌜ Told w r ⌝ }
+    ensures { λ r. ⌜ Stops w r ⌝ }
 {
     if w.found == FAILED {
         return bare(UNREAD);
@@ -198,7 +211,7 @@ fn passed_over(w: Window) -> Command
 // A `bring` with its rows, up to the next row `.` or the end of the input.
 fn with_rows(buf: &mut [u8], last: Window) -> Asked
     requires { ⌜ Within last (now buf) ⌝ }
-    ensures { λ r. ⌜ Within (r .window) (now (buf .exit)) × Told (r .window) (r .command) ⌝ }
+    ensures { λ r. ⌜ Within (r .window) (now (buf .exit)) × Stops (r .window) (r .command) ⌝ }
 {
     let w = script_rows::dot(buf, script_rows::passed(last));
     if w.found == FULL {
@@ -217,7 +230,7 @@ fn with_rows(buf: &mut [u8], last: Window) -> Asked
 // What the input asks next.
 pub fn next(buf: &mut [u8], last: Window) -> Asked
     requires { ⌜ Within last (now buf) ⌝ }
-    ensures { λ r. ⌜ Within (r .window) (now (buf .exit)) × Told (r .window) (r .command) ⌝ }
+    ensures { λ r. ⌜ Within (r .window) (now (buf .exit)) × Stops (r .window) (r .command) ⌝ }
 {
     let w = script_rows::row_alone(buf, last);
     let command = of_found(buf, w);

@@ -9,7 +9,7 @@ fn room() -> [u8; scripts::ROOM] {
 
 fn run(fd: i32) -> Ending {
     let mut buffer = room();
-    scripts::run(&mut buffer, script_rows::unread(fd))
+    scripts::run(&mut buffer, script_rows::fresh(fd))
 }
 
 fn main() {

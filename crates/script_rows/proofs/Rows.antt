@@ -5,7 +5,7 @@ use mathlib.Core.Bool.{Bool, true, false}
 use mathlib.Core.List.{List}
 use Prim.Native.Nat.{ℕ, zero, suc, _+_, _-_, _<_, _≤_}
 use native.Mathlib.Omega.{arith}
-use native.Mathlib.Decide.{decLt}
+use native.Mathlib.Decide.{decLt, ℕ-discrete}
 use lib.ListN.{length, getD, take}
 use lib.Seq.{getD-take, length-take-le}
 use borrow.Rule.Slice.PartMut.{putMid, take-put}
@@ -13,7 +13,7 @@ use Rattle.klaim.specs.Rows.{newline}
 use Rattle.text.specs.Pieces.{endOf}
 use Rattle.text.proofs.Pieces.{end-none, end-hit}
 use Rattle.script_rows.specs.declared.Window.{Window}
-use Rattle.script_rows.specs.Window.{inputEnded, bufferFull, readFailed, moreToCome, Within, Kept, Unended, IsRow, Found, Seeks, Turned, Roomy, Given, Read}
+use Rattle.script_rows.specs.Window.{inputEnded, bufferFull, passedOver, readFailed, moreToCome, Within, Kept, Unended, IsRow, Found, LongRow, Seeks, Turned, Roomy, Given, Read}
 
 -- bytes before those that were read
 pub before-read : (n k : ℕ) (old read : List ℕ) → n ≤ length old → (i : ℕ) → i < n → getD (putMid n k old read) i 0 ≡ getD old i 0
@@ -21,15 +21,15 @@ before-read n k old read l i h =
     sym (getD-take n (putMid n k old read) i 0 h) ∙ ap (λ (s : List ℕ). getD s i 0) (take-put n k old read l) ∙ getD-take n old i 0 h
 
 -- a read that gave some bytes
-pub given-some : (last w : Window) (n : ℕ) → (n ≡ 0 → ⊥) → (w .found ≡ 5) × (w .from ≡ last .from) × (w .row ≡ last .row) × (w .next ≡ last .next) × (w .to ≡ last .to + n) → Given last false n w
+pub given-some : (last w : Window) (n : ℕ) → (n ≡ 0 → ⊥) → (w .found ≡ 5) × (w .from ≡ last .from) × (w .row ≡ last .row) × (w .next ≡ last .next) × (w .to ≡ last .to + n) × (w .more ≡ last .more) → Given last false n w
 given-some last w zero some e = absurd (some refl)
 given-some last w (suc n) some e = e
 
 -- what a read gave, which leaves the length and the bytes before it as they were
 module _ {last w : Window} {old new : List ℕ} (in-order : Within last old) (long : length new ≡ length old) (same : (i : ℕ) → i < last .to → getD new i 0 ≡ getD old i 0) where
   -- nothing, at the end of the input or as it failed
-  read-none : (k : ℕ) → w .found ≡ k → 0 < k → k < moreToCome → (k ≡ bufferFull → ⊥) → w .from ≡ last .from → w .to ≡ last .to → Within w new → (w .found ≡ inputEnded → w .row ≡ w .to) → Read last old w new
-  read-none k found some less other from to within end = record {
+  read-none : (k : ℕ) → w .found ≡ k → 0 < k → k < moreToCome → (k ≡ bufferFull → ⊥) → w .from ≡ last .from → w .to ≡ last .to → Within w new → (w .found ≡ inputEnded → w .row ≡ w .to) → ((w .found ≡ inputEnded → ⊥) → w .more ≡ last .more) → Read last old w new
+  read-none k found some less other from to within end coming = record {
     within = within;
     long = long;
     same = same;
@@ -39,14 +39,15 @@ module _ {last w : Window} {old new : List ℕ} (in-order : Within last old) (lo
     stop = λ q. to;
     end = end;
     full = λ q. absurd (other (sym found ∙ q));
+    coming = coming;
   }
 
   pub read-given : (failed : Bool) (n : ℕ) → last .to + n ≤ length new → Given last failed n w → Read last old w new
-  read-given true n fits (found, from, row, next, to) =
-      read-none readFailed found (omega arith) (omega arith) (λ q. omega arith) from to (omega arith, omega arith, omega arith, omega arith) (λ q. absurd (omega arith))
+  read-given true n fits (found, from, row, next, to, coming) =
+      read-none readFailed found (omega arith) (omega arith) (λ q. omega arith) from to (omega arith, omega arith, omega arith, omega arith) (λ q. absurd (omega arith)) (λ q. coming)
   read-given false zero fits (found, from, row, next, to) =
-      read-none inputEnded found (omega arith) (omega arith) (λ q. omega arith) from to (omega arith, omega arith, omega arith, omega arith) (λ q. omega arith)
-  read-given false (suc n) fits (found, from, row, next, to) = record {
+      read-none inputEnded found (omega arith) (omega arith) (λ q. omega arith) from to (omega arith, omega arith, omega arith, omega arith) (λ q. omega arith) (λ q. absurd (q found))
+  read-given false (suc n) fits (found, from, row, next, to, coming) = record {
     within = (omega arith, omega arith, omega arith, omega arith);
     long = long;
     same = same;
@@ -56,6 +57,7 @@ module _ {last w : Window} {old new : List ℕ} (in-order : Within last old) (lo
     stop = λ q. absurd (q found);
     end = λ q. absurd (omega arith);
     full = λ q. absurd (omega arith);
+    coming = λ q. coming;
   }
 
 -- the end of a row looked for in the first bytes of a buffer
@@ -78,8 +80,8 @@ unended-on buf a b e f g i l m = go (decLt i b)
 
 -- the end of the row stands in what is there
 pub row-here : {last w : Window} {buf : List ℕ} (e : ℕ) → Seeks last buf → e ≡ endOf newline (take (last .to) buf) (last .next) → e < last .to → last .next ≤ e →
-    (w .found ≡ 0) × (w .from ≡ last .from) × (w .row ≡ last .row) × (w .next ≡ e + 1) × (w .to ≡ last .to) → Turned last buf w buf
-row-here {last} {w} {buf} e S q h low (found, from, row, next, to) =
+    (w .found ≡ 0) × (w .from ≡ last .from) × (w .row ≡ last .row) × (w .next ≡ e + 1) × (w .to ≡ last .to) × (w .more ≡ last .more) → Turned last buf w buf
+row-here {last} {w} {buf} e S q h low (found, from, row, next, to, coming) =
     let in-order = S .within in
     let place : w .next - 1 ≡ e = omega arith in
     let unended = unended-on buf (last .row) (last .next) e (S .unended) (looked buf (last .to) (last .next) (in-order .3) e q (omega arith)) in
@@ -100,6 +102,7 @@ row-here {last} {w} {buf} e S q h low (found, from, row, next, to) =
         none = λ no. absurd (no found);
         end = λ p. absurd (omega arith);
         full = λ p. absurd (omega arith);
+        goes-on = λ p. coming;
       };
     }
 
@@ -125,6 +128,7 @@ input-ended {last} {w} {buf} S all (found, from, row, next, to) =
         none = λ no i a b. S .unended i (omega arith) (omega arith);
         end = λ p. omega arith;
         full = λ p. absurd (omega arith);
+        goes-on = λ p. absurd (p found);
       };
     }
 
@@ -159,6 +163,7 @@ read-on {last} {r} {w} {old} {mid} {new} S all R D =
             omega (arith, more),
             omega (arith, more),
             kept,
+            D .coming (λ p. omega arith) ∙ R .coming,
           );
       found = λ m. record {
         within = within;
@@ -168,13 +173,14 @@ read-on {last} {r} {w} {old} {mid} {new} S all R D =
         none = λ no. unended (last .row + w .from - last .from) (w .to) (omega arith) (omega (arith, D .stop m)) (omega arith);
         end = D .end;
         full = λ p. (from ∙ R .room (omega (arith, D .full p, D .stop m, D .long)), D .full p);
+        goes-on = λ p. D .coming p ∙ R .coming;
       };
     }
 
 -- the turns before, and the last one
-pub found-on : {a n b : ℕ} (last : Window) {w : Window} {old mid new : List ℕ} → a ≤ n → Within last mid → last .row + a ≡ n + last .from → b + last .from ≤ last .to + a → Kept a b old (last .from) mid →
-    Found (last .from) (last .row) (last .to) mid w new → Found a n b old w new
-found-on {a} {n} {b} last {w} {old} {mid} {new} l in-order row to kept F =
+pub found-on : {a n b : ℕ} {o : Bool} (last : Window) {w : Window} {old mid new : List ℕ} → a ≤ n → Within last mid → last .row + a ≡ n + last .from → b + last .from ≤ last .to + a → Kept a b old (last .from) mid → last .more ≡ o →
+    Found (last .from) (last .row) (last .to) (last .more) mid w new → Found a n b o old w new
+found-on {a} {n} {b} {o} last {w} {old} {mid} {new} l in-order row to kept coming F =
     record {
       within = F .within;
       kept = kept-on a b old (last .from) (last .to) mid (w .from) new to kept (F .kept);
@@ -183,8 +189,19 @@ found-on {a} {n} {b} last {w} {old} {mid} {new} l in-order row to kept F =
       none = λ no i x. F .none no i (omega arith);
       end = F .end;
       full = F .full;
+      goes-on = λ p. F .goes-on p ∙ coming;
     }
 
 -- the same of other names for the places
-pub found-at : {a n b x y z : ℕ} {old : List ℕ} {w : Window} {buf : List ℕ} → x ≡ a → y ≡ n → z ≡ b → Found x y z old w buf → Found a n b old w buf
-found-at {a} {n} {b} {x} {y} {z} {old} {w} {buf} p q r F = subst (λ (k : ℕ). Found a n k old w buf) r (subst (λ (k : ℕ). Found a k z old w buf) q (subst (λ (k : ℕ). Found k y z old w buf) p F))
+pub found-at : {a n b x y z : ℕ} {o v : Bool} {old : List ℕ} {w : Window} {buf : List ℕ} → x ≡ a → y ≡ n → z ≡ b → v ≡ o → Found x y z v old w buf → Found a n b o old w buf
+found-at {a} {n} {b} {x} {y} {z} {o} {v} {old} {w} {buf} p q r s F =
+    subst (λ (k : Bool). Found a n b k old w buf) s
+    (subst (λ (k : ℕ). Found a n k v old w buf) r (subst (λ (k : ℕ). Found a k z v old w buf) q (subst (λ (k : ℕ). Found k y z v old w buf) p F)))
+
+-- a row that was passed over is long, or a read failed in it
+pub long-or-failed : {w r : Window} → LongRow w r → (r .found ≡ passedOver → ⊥) → (r .found ≡ readFailed → ⊥) → ⊥
+long-or-failed {w} {r} L long failed = go (ℕ-discrete (w .found) readFailed)
+  where
+    go : Dec (w .found ≡ readFailed) → ⊥
+    go (yes p) = failed (L .failed p)
+    go (no p) = long (L .long p)

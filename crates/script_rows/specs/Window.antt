@@ -53,9 +53,9 @@ pub record IsRow (w : Window) (buf : List ℕ) : Type 0 where
   pub ended : getD buf (w .next - 1) 0 ≡ newline
   pub one : Unended buf (w .row) (w .next - 1)
 
--- What was found of the row that begins at `next`, where the bytes from `from` to `to` were there and are kept. A row is found as soon
--- as it is there. Else no row ends in what is there: the input has ended, what is kept fills the buffer, or a read failed.
-pub record Found (from next to : ℕ) (old : List ℕ) (w : Window) (buf : List ℕ) : Type 0 where
+-- What was found of the row that begins at `next`, where the bytes from `from` to `to` were there and are kept, and `coming` says whether
+-- more may come. Where the row is there, it is a whole row; else no row ends in what is there. Only the end of the input ends it.
+pub record Found (from next to : ℕ) (coming : Bool) (old : List ℕ) (w : Window) (buf : List ℕ) : Type 0 where
   pub within : Within w buf
   pub kept : Kept from to old (w .from) buf
   pub all : to + w .from ≤ w .to + from
@@ -63,10 +63,17 @@ pub record Found (from next to : ℕ) (old : List ℕ) (w : Window) (buf : List 
   pub none : (w .found ≡ rowThere → ⊥) → Unended buf (next + w .from - from) (w .to)
   pub end : w .found ≡ inputEnded → w .row ≡ w .to
   pub full : w .found ≡ bufferFull → (w .from ≡ 0) × (w .to ≡ length buf)
+  pub goes-on : (w .found ≡ inputEnded → ⊥) → w .more ≡ coming
 
 -- the next row, kept alone, unless it was passed over or a read failed
 abbrev pub Alone : Window → List ℕ → Window → List ℕ → Type 0
-Alone last old w buf = Within w buf × ((w .found ≡ passedOver → ⊥) → (w .found ≡ readFailed → ⊥) → Found (last .next) (last .next) (last .to) old w buf)
+Alone last old w buf = Within w buf × ((w .found ≡ passedOver → ⊥) → (w .found ≡ readFailed → ⊥) → Found (last .next) (last .next) (last .to) (last .more) old w buf)
+
+-- a row that was passed over to where w is: it is long, unless a read failed there
+pub record LongRow (w r : Window) : Type 0 where
+  pub places : (r .from ≡ w .from) × (r .row ≡ w .row) × (r .next ≡ w .next) × (r .to ≡ w .to)
+  pub long : (w .found ≡ readFailed → ⊥) → r .found ≡ passedOver
+  pub failed : w .found ≡ readFailed → r .found ≡ readFailed
 
 -- the row that was found is `.`
 unfoldable pub dotRow : Window → List ℕ → Bool
@@ -76,6 +83,7 @@ dotRow w buf = eqb (w .next - w .row) 2 & eqb (getD buf (w .row) 0) (code ".")
 pub record Dotted (last : Window) (old : List ℕ) (w : Window) (buf : List ℕ) : Type 0 where
   pub within : Within w buf
   pub kept : Kept (last .from) (last .to) old (w .from) buf
+  pub all : last .to + w .from ≤ w .to + last .from
   pub row : w .found ≡ rowThere → IsRow w buf × (dotRow w buf ≡ true)
 
 -- the search for the end of a row: none was found before `next`
@@ -85,8 +93,8 @@ pub record Seeks (w : Window) (buf : List ℕ) : Type 0 where
 
 -- one turn of it: there is more to look at, or something was found
 pub record Turned (last : Window) (old : List ℕ) (w : Window) (buf : List ℕ) : Type 0 where
-  pub more : w .found ≡ moreToCome → Seeks w buf × (w .row + last .from ≡ last .row + w .from) × (last .to + w .from < w .to + last .from) × Kept (last .from) (last .to) old (w .from) buf
-  pub found : (w .found ≡ moreToCome → ⊥) → Found (last .from) (last .row) (last .to) old w buf
+  pub more : w .found ≡ moreToCome → Seeks w buf × (w .row + last .from ≡ last .row + w .from) × (last .to + w .from < w .to + last .from) × Kept (last .from) (last .to) old (w .from) buf × (w .more ≡ last .more)
+  pub found : (w .found ≡ moreToCome → ⊥) → Found (last .from) (last .row) (last .to) (last .more) old w buf
 
 -- the same window with room behind it, unless what is kept fills the buffer
 pub record Roomy (last : Window) (old : List ℕ) (w : Window) (buf : List ℕ) : Type 0 where
@@ -96,12 +104,13 @@ pub record Roomy (last : Window) (old : List ℕ) (w : Window) (buf : List ℕ) 
   pub next : w .next + last .from ≡ last .next + w .from
   pub to : w .to + last .from ≡ last .to + w .from
   pub room : w .to ≡ length buf → w .from ≡ 0
+  pub coming : w .more ≡ last .more
 
 -- what a read of n bytes gave, or one that failed: a failure is not the end of the input
 abbrev pub Given : Window → Bool → ℕ → Window → Type 0
-Given last true n w = (w .found ≡ readFailed) × (w .from ≡ last .from) × (w .row ≡ last .row) × (w .next ≡ last .next) × (w .to ≡ last .to)
+Given last true n w = (w .found ≡ readFailed) × (w .from ≡ last .from) × (w .row ≡ last .row) × (w .next ≡ last .next) × (w .to ≡ last .to) × (w .more ≡ last .more)
 Given last false zero w = (w .found ≡ inputEnded) × (w .from ≡ last .from) × (w .row ≡ last .to) × (w .next ≡ last .to) × (w .to ≡ last .to)
-Given last false (suc n) w = (w .found ≡ moreToCome) × (w .from ≡ last .from) × (w .row ≡ last .row) × (w .next ≡ last .next) × (w .to ≡ last .to + suc n)
+Given last false (suc n) w = (w .found ≡ moreToCome) × (w .from ≡ last .from) × (w .row ≡ last .row) × (w .next ≡ last .next) × (w .to ≡ last .to + suc n) × (w .more ≡ last .more)
 
 -- what a read behind what is there gave
 pub record Read (last : Window) (old : List ℕ) (w : Window) (buf : List ℕ) : Type 0 where
@@ -114,3 +123,4 @@ pub record Read (last : Window) (old : List ℕ) (w : Window) (buf : List ℕ) :
   pub stop : (w .found ≡ moreToCome → ⊥) → w .to ≡ last .to
   pub end : w .found ≡ inputEnded → w .row ≡ w .to
   pub full : w .found ≡ bufferFull → w .to ≡ length buf
+  pub coming : (w .found ≡ inputEnded → ⊥) → w .more ≡ last .more

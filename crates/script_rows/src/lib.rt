@@ -1,8 +1,9 @@
 //! The rows of an input that comes in pieces: a buffer holds what has come and is not done with, a window says where it stands.
 ghost use mathlib.Core.Path.{_≡_};
+ghost use mathlib.Core.Bool.{not};
 ghost use Prim.Native.Nat.{_+_, _<_, _≤_};
 ghost use lib.ListN.{length};
-ghost use Rattle.script_rows.specs.Window.{rowThere, inputEnded, moreToCome, Within, Kept, Found, Alone, dotRow, Dotted, Seeks, Turned, Roomy, Given, Read};
+ghost use Rattle.script_rows.specs.Window.{rowThere, inputEnded, moreToCome, Within, Kept, Found, Alone, dotRow, Dotted, LongRow, Seeks, Turned, Roomy, Given, Read};
 use streams::Got;
 
 // The bytes of the input from `from` to `to` are in the buffer; those before are done with. The row that was asked for begins
@@ -10,7 +11,7 @@ use streams::Got;
 pub struct Window {
     pub fd: i32,
     // Whether more may come from the descriptor.
-    pub open: bool,
+    pub more: bool,
     pub found: u8,
     pub from: usize,
     pub row: usize,
@@ -37,12 +38,12 @@ pub const FAILED: u8 = 4;
 const MORE: u8 = 5;
 
 // An input of which nothing has come yet.
-pub fn unread(fd: i32) -> Window
+pub fn fresh(fd: i32) -> Window
     ensures { λ r. ⌜ (r .from ≡ 0) × (r .row ≡ 0) × (r .next ≡ 0) × (r .to ≡ 0) ⌝ }
 {
     Window {
         fd,
-        open: true,
+        more: true,
         found: ROW,
         from: 0,
         row: 0,
@@ -57,7 +58,7 @@ pub fn whole(n: usize) -> Window
 {
     Window {
         fd: libc::STDIN_FILENO,
-        open: false,
+        more: false,
         found: ROW,
         from: 0,
         row: 0,
@@ -68,7 +69,7 @@ pub fn whole(n: usize) -> Window
 
 // The window from the next row on: what stands before is done with.
 pub fn passed(last: Window) -> Window
-    ensures { λ r. ⌜ (r .from ≡ last .next) × (r .row ≡ last .next) × (r .next ≡ last .next) × (r .to ≡ last .to) ⌝ }
+    ensures { λ r. ⌜ (r .from ≡ last .next) × (r .row ≡ last .next) × (r .next ≡ last .next) × (r .to ≡ last .to) × (r .more ≡ last .more) ⌝ }
 {
     let mut w = last;
     w.from = w.next;
@@ -81,7 +82,7 @@ fn at_end(last: Window) -> Window
     ensures { λ r. ⌜ (r .found ≡ inputEnded) × (r .from ≡ last .from) × (r .row ≡ last .to) × (r .next ≡ last .to) × (r .to ≡ last .to) ⌝ }
 {
     let mut w = last;
-    w.open = false;
+    w.more = false;
     w.found = END;
     w.row = w.to;
     w.next = w.to;
@@ -90,7 +91,7 @@ fn at_end(last: Window) -> Window
 
 // The window with something else found.
 fn found(last: Window, what: u8) -> Window
-    ensures { λ r. ⌜ (r .found ≡ what) × (r .from ≡ last .from) × (r .row ≡ last .row) × (r .next ≡ last .next) × (r .to ≡ last .to) ⌝ }
+    ensures { λ r. ⌜ (r .found ≡ what) × (r .from ≡ last .from) × (r .row ≡ last .row) × (r .next ≡ last .next) × (r .to ≡ last .to) × (r .more ≡ last .more) ⌝ }
 {
     let mut w = last;
     w.found = what;
@@ -100,7 +101,7 @@ fn found(last: Window, what: u8) -> Window
 // The window with the row found that ends at `end`.
 fn ended(last: Window, end: usize) -> Window
     requires { ⌜ end < last .to ⌝ }
-    ensures { λ r. ⌜ (r .found ≡ rowThere) × (r .from ≡ last .from) × (r .row ≡ last .row) × (r .next ≡ end + 1) × (r .to ≡ last .to) ⌝ }
+    ensures { λ r. ⌜ (r .found ≡ rowThere) × (r .from ≡ last .from) × (r .row ≡ last .row) × (r .next ≡ end + 1) × (r .to ≡ last .to) × (r .more ≡ last .more) ⌝ }
 {
     let mut w = last;
     w.found = ROW;
@@ -111,7 +112,7 @@ fn ended(last: Window, end: usize) -> Window
 // The window with n bytes more, and the end of the row to be looked for in them.
 fn extended(last: Window, n: usize) -> Window
     requires { ⌜ last .to + n < 18446744073709551616 ⌝ }
-    ensures { λ r. ⌜ (r .found ≡ moreToCome) × (r .from ≡ last .from) × (r .row ≡ last .row) × (r .next ≡ last .next) × (r .to ≡ last .to + n) ⌝ }
+    ensures { λ r. ⌜ (r .found ≡ moreToCome) × (r .from ≡ last .from) × (r .row ≡ last .row) × (r .next ≡ last .next) × (r .to ≡ last .to + n) × (r .more ≡ last .more) ⌝ }
 {
     let mut w = last;
     w.found = MORE;
@@ -186,7 +187,7 @@ fn look_further(buf: &mut [u8], last: Window) -> Window
     requires { ⌜ Seeks last (now buf) × (last .next ≡ last .to) ⌝ }
     ensures { λ r. ⌜ Turned last (now (buf .entry)) r (now (buf .exit)) ⌝ }
 {
-    if !last.open {
+    if !last.more {
         return at_end(last);
     }
     let roomy = with_room(buf, last);
@@ -211,7 +212,7 @@ fn look_on(buf: &mut [u8], last: Window) -> Window
 // The next row. What stands from `from` on is kept.
 pub fn next_row(buf: &mut [u8], last: Window) -> Window
     requires { ⌜ Within last (now buf) ⌝ }
-    ensures { λ r. ⌜ Found (last .from) (last .next) (last .to) (now (buf .entry)) r (now (buf .exit)) ⌝ }
+    ensures { λ r. ⌜ Found (last .from) (last .next) (last .to) (last .more) (now (buf .entry)) r (now (buf .exit)) ⌝ }
 {
     let mut w = last;
     w.row = w.next;
@@ -238,6 +239,16 @@ fn pass_over(buf: &mut [u8], last: Window) -> Window
     w
 }
 
+// The window behind a row that was passed over, unless a read failed there.
+fn long_row(w: Window) -> Window
+    ensures { λ r. ⌜ LongRow w r ⌝ }
+{
+    if w.found == FAILED {
+        return w;
+    }
+    found(w, LONG)
+}
+
 // The next row, kept alone. One that does not fit into the buffer is passed over.
 pub fn row_alone(buf: &mut [u8], last: Window) -> Window
     requires { ⌜ Within last (now buf) ⌝ }
@@ -247,11 +258,7 @@ pub fn row_alone(buf: &mut [u8], last: Window) -> Window
     if first.found != FULL {
         return first;
     }
-    let w = pass_over(buf, first);
-    if w.found == FAILED {
-        return w;
-    }
-    found(w, LONG)
+    long_row(pass_over(buf, first))
 }
 
 // Whether the row that was found is `.`.
@@ -286,6 +293,7 @@ pub fn dot(buf: &mut [u8], last: Window) -> Window
 // Whether there is a row to pass over: one that is not `.`.
 fn is_other(buf: &[u8], w: Window) -> bool
     requires { ⌜ Within w (now buf) ⌝ }
+    ensures { λ r. ⌜ (w .found ≡ rowThere → r ≡ not (dotRow w (now (buf .entry)))) ⌝ }
 {
     if w.found == ROW {
         return !is_dot(buf, w);

@@ -4,6 +4,7 @@ ghost use mathlib.Core.Path.{_≡_};
 ghost use Prim.Native.Nat.{_≤_};
 ghost use lib.ListN.{length};
 ghost use Rattle.script_rows.specs.Window.{Within};
+ghost use Rattle.commands.specs.Asked.{unread};
 ghost use Rattle.state.specs.Fits.{Fits};
 ghost use Rattle.step.specs.Stepped.{Stepped};
 ghost use Rattle.withdraws.specs.Withdrawn.{Withdrawn};
@@ -19,7 +20,7 @@ use streams::Ending;
 const HEAD_LIMIT: usize = 1048576;
 
 // A buffer that holds a byte more than the longest head and the longest command row, so that longer ones are seen to be longer.
-pub const ROOM: usize = 1048577;
+pub const ROOM: usize = HEAD_LIMIT + 1;
 
 // The row for what a step did.
 fn say_step(told: Told) -> bool {
@@ -173,6 +174,7 @@ fn ended(written: bool) -> Ending {
 // The end of a run: the state is printed, unless the input could not be read.
 fn finish(state: State, kind: u8) -> Ending
     requires { ⌜ Fits state ⌝ }
+    ensures { λ r. ⌜ (kind ≡ unread → r ≡ Ending.Unread) ⌝ }
 {
     if kind == commands::UNREAD {
         return Ending::Unread;

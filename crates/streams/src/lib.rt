@@ -70,6 +70,16 @@ pub fn read(fd: i32, buf: &mut [u8]) -> Got
     }
 }
 
+// What a reading has given whose last read gave nothing: it failed if that did.
+fn reading_of(last: Got, done: usize) -> Got
+    ensures { λ r. ⌜ (r .failed ≡ last .failed) × (r .count ≡ done) ⌝ }
+{
+    Got {
+        failed: last.failed,
+        count: done,
+    }
+}
+
 // Reads until the buffer is full, the input ends or a read fails.
 pub fn read_full(fd: i32, buf: &mut [u8]) -> Got
     ensures { λ r. ⌜ Counts (r .count) (now (buf .exit)) ⌝ }
@@ -78,16 +88,10 @@ pub fn read_full(fd: i32, buf: &mut [u8]) -> Got
     while done < buf.len() {
         let got = read(fd, &mut buf[done..]);
         if got.failed {
-            return Got {
-                failed: true,
-                count: 0,
-            };
+            return reading_of(got, done);
         }
         if got.count == 0 {
-            return Got {
-                failed: false,
-                count: done,
-            };
+            return reading_of(got, done);
         }
         done += got.count;
     }

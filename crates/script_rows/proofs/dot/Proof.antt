@@ -30,6 +30,7 @@ returns c =
     let next = c .before .before .before .before .next-row in
     record {
       within = next .ensures .within;
+      all = omega (arith, next .ensures .all, turn .inv .2);
       kept = kept-on (s .args .last .from) (s .args .last .to) (s .args .buf .now) (turn .w .from) (turn .w .to) (turn .buf) (next .result .from) (next .last .0) (turn .inv .2) (turn .inv .3) (next .ensures .kept);
       row = λ q. absurd (c .if1 .taken q);
     }
@@ -47,6 +48,7 @@ returns-2 c =
     let next = c .before .before .before .before .before .before .before .next-row in
     record {
       within = next .ensures .within;
+      all = omega (arith, next .ensures .all, turn .inv .2);
       kept = kept-on (s .args .last .from) (s .args .last .to) (s .args .buf .now) (turn .w .from) (turn .w .to) (turn .buf) (next .result .from) (next .last .0) (turn .inv .2) (turn .inv .3) (next .ensures .kept);
       row = λ q. (next .ensures .row q .1, sym (c .before .is-dot .ensures) ∙ c .if2 .taken);
     }

@@ -1,4 +1,4 @@
-use mathlib.Core.Path.{_≡_, refl}
+use mathlib.Core.Path.{_≡_, refl, _∙_}
 use Prim.Native.Nat.{_+_, _-_, _≤_}
 use native.Mathlib.Omega.{arith}
 use lib.ListN.{length}
@@ -10,7 +10,7 @@ use Rattle.script_rows.proofs.next_row.Tie as tie
 
 abbrev Inv-loop : tie.InvT-loop
 Inv-loop buf₀ w₀ buf w =
-    Seeks w buf × (length buf ≡ length buf₀) × (w .row + w₀ .from ≡ w₀ .row + w .from) × (w₀ .to + w .from ≤ w .to + w₀ .from) × Kept (w₀ .from) (w₀ .to) buf₀ (w .from) buf
+    Seeks w buf × (length buf ≡ length buf₀) × (w .row + w₀ .from ≡ w₀ .row + w .from) × (w₀ .to + w .from ≤ w .to + w₀ .from) × Kept (w₀ .from) (w₀ .to) buf₀ (w .from) buf × (w .more ≡ w₀ .more)
 
 abbrev μ-loop : tie.MeasureT-loop
 μ-loop buf₀ w₀ buf w = length buf₀ + w .from - w .to
@@ -23,6 +23,7 @@ loop-holds c =
       refl,
       omega arith,
       λ i h. refl,
+      refl,
     )
 
 look-on-requires : tie.Need-look-on-requires Inv-loop μ-loop
@@ -35,7 +36,7 @@ returns : tie.Need-returns Inv-loop μ-loop
 returns c =
     let s = c .before .before .before .before .before .before .before .before in
     let turn = c .before .before .before .before .before .before .loop in
-    found-on (turn .w) (omega arith) (turn .inv .0 .within) (turn .inv .2) (turn .inv .3) (turn .inv .4) (c .before .before .before .before .look-on .ensures .found (c .if1 .taken))
+    found-on (turn .w) (omega arith) (turn .inv .0 .within) (turn .inv .2) (turn .inv .3) (turn .inv .4) (turn .inv .5) (c .before .before .before .before .look-on .ensures .found (c .if1 .taken))
 
 loop-less : tie.Need-loop-less Inv-loop μ-loop
 loop-less c =
@@ -54,6 +55,7 @@ loop-again c =
       omega (arith, more .1, turn .inv .2),
       omega (arith, more .2, turn .inv .3),
       kept-on (last .from) (last .to) (s .args .buf .now) (turn .w .from) (turn .w .to) (turn .buf) (looked .result .from) (looked .last .0) (turn .inv .3) (turn .inv .4) (more .3),
+      more .4 ∙ turn .inv .5,
     )
 
 pub next-row-spec : {M : Type 1} → statement M

@@ -35,6 +35,7 @@ returns-3 c =
       next = omega arith;
       to = omega arith;
       room = λ q. refl;
+      coming = refl;
     }
 
 pub with-room-spec : {M : Type 1} → statement M

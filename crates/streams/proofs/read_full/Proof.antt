@@ -27,11 +27,17 @@ part-read-end c = search needs
 read-requires : tie.Need-read-requires Inv-loop μ-loop
 read-requires c κs = search needs
 
+reading-of-requires : tie.Need-reading-of-requires Inv-loop μ-loop
+reading-of-requires c κs = search needs
+
 same-length : tie.Need-same-length Inv-loop μ-loop
 same-length c = search needs
 
 returns : tie.Need-returns Inv-loop μ-loop
-returns c = search needs
+returns c = counts _ _ (search needs)
+
+reading-of-requires-2 : tie.Need-reading-of-requires-2 Inv-loop μ-loop
+reading-of-requires-2 c κs = search needs
 
 same-length-2 : tie.Need-same-length-2 Inv-loop μ-loop
 same-length-2 c = search needs
@@ -65,8 +71,10 @@ read-full-spec =
     part-read-start
     part-read-end
     read-requires
+    reading-of-requires
     same-length
     returns
+    reading-of-requires-2
     same-length-2
     returns-2
     add-done
