@@ -1,5 +1,7 @@
 //! The rows that an engine script prints, each made in a buffer and written to standard output: false, where that failed.
 //! A function that writes into a lent buffer does so from `at` on and answers the place behind what it wrote.
+#![tactic(auto)]
+
 ghost use Rattle.std.specs.Prelude.{◌+◌, ◌≤◌, length};
 ghost use Rattle.sets.specs.Bits.{right_count};
 

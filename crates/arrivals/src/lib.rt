@@ -1,4 +1,6 @@
 //! An arrival, read from its bytes: the Q rows that a bring takes.
+#![tactic(auto)]
+
 ghost use Rattle.std.specs.Prelude.{◌≡◌, true, List, [], ◌∷◌, ℕ, ◌≤◌, min, length};
 ghost use Rattle.klaim.specs.Rows.{Row};
 ghost use Rattle.klaim.specs.Reader.{an_arrival, judge, read_arrival};

@@ -1,4 +1,6 @@
 //! The test of a template: no variable that it binds stands in it twice.
+#![tactic(auto)]
+
 ghost use Rattle.std.specs.Prelude.{◌≡◌, true, ◌<◌, ◌≤◌};
 ghost use Rattle.sets.specs.Lists.{all, sum};
 ghost use Rattle.klaim.specs.Process.{clash, template};

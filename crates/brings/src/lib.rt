@@ -1,4 +1,6 @@
 //! An arrival brought into the engine's state.
+#![tactic(auto)]
+
 ghost use Rattle.std.specs.Prelude.{◌≡◌, ℕ, ◌<◌, ◌≤◌, eqb, length};
 ghost use Rattle.sets.specs.Lists.{◌&◌, either};
 ghost use Rattle.sets.specs.Bits.{mem};

@@ -1,4 +1,6 @@
 //! The first line of a process whose rule is broken.
+#![tactic(auto)]
+
 ghost use Rattle.std.specs.Prelude.{◌≡◌, cond, min, length};
 ghost use Rattle.klaim.specs.Process.{tree};
 ghost use Rattle.klaim.specs.Net.{Net, Estimate};

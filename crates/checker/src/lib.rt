@@ -1,4 +1,6 @@
 //! Check: a net against an estimate of where names may go.
+#![tactic(auto)]
+
 ghost use Rattle.std.specs.Prelude.{◌≡◌, ◌++◌, ◌≤◌, length, drop};
 ghost use Rattle.klaim.specs.Analysis.{verdict as verdict_of};
 ghost use Rattle.klaim.specs.Report.{report as report_of};

@@ -1,4 +1,6 @@
 //! The commands of an engine script, as they come: what each says, as numbers.
+#![tactic(auto)]
+
 ghost use Rattle.std.specs.Prelude.{◌≡◌, ◌<◌, ◌≤◌, length};
 ghost use Rattle.script_rows.specs.Window.{row_there, Within};
 ghost use Rattle.commands.specs.Asked.{none, Stops};

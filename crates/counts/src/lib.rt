@@ -1,4 +1,6 @@
 //! The numbers of the March listing: rights reported, rights held, rights used, and the share.
+#![tactic(auto)]
+
 ghost use Rattle.std.specs.Prelude.{◌≡◌, ◌<◌, ◌≤◌, length, get_or};
 ghost use Rattle.sets.specs.Lists.{sum, below, table};
 ghost use Rattle.sets.specs.Bits.{size, meet};

@@ -1,4 +1,6 @@
 //! The door in two parts: where an arrival is sound, and whether its use map lies within a sandbox there.
+#![tactic(auto)]
+
 ghost use Rattle.std.specs.Prelude.{◌≡◌, ◌<◌, ◌≤◌, length, get_or};
 ghost use Rattle.sets.specs.Lists.{all, below};
 ghost use Rattle.sets.specs.Bits.{within as isWithin};

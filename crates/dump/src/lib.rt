@@ -1,5 +1,7 @@
 //! An engine's state as rows on standard output; a function that prints answers false where that failed.
 //! A function that writes into a lent buffer does so from `at` on and answers the place behind what it wrote.
+#![tactic(auto)]
+
 ghost use Rattle.std.specs.Prelude.{◌≡◌, ◌+◌, ◌*◌, ◌<◌, ◌≤◌, length};
 ghost use Rattle.state.specs.Fits.{Fits};
 

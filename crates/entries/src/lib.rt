@@ -1,4 +1,6 @@
 //! A row as the bytes of its table.
+#![tactic(auto)]
+
 ghost use Rattle.std.specs.Prelude.{◌≡◌, true, ◌-◌, ◌≤◌};
 ghost use Rattle.klaim.specs.Rows.{group_q};
 ghost use Rattle.klaim.specs.Reader.{in_limits};

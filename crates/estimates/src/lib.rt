@@ -1,4 +1,6 @@
 //! An estimate, read from its bytes.
+#![tactic(auto)]
+
 ghost use Rattle.std.specs.Prelude.{◌≡◌, true, List, [], ◌∷◌, ◌++◌, ℕ, ◌+◌, ◌<◌, ◌≤◌, length};
 ghost use Rattle.klaim.specs.Rows.{Row, group_a, group_e};
 ghost use Rattle.klaim.specs.Reader.{an_estimate, judge, repeated, read_estimate};

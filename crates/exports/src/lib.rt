@@ -1,6 +1,8 @@
 //! For the timing in `reference/bench` alone: functions on bytes and numbers that make the public calls. A state does not leave
 //! the library: those of the engine begin from the texts, and do their work `count` times. They are proved safe and ending, and
 //! promise no more; what is promised of a public call stands at that call.
+#![tactic(auto)]
+
 ghost use Rattle.std.specs.Prelude.{◌≡◌, ◌<◌, ◌≤◌};
 ghost use Rattle.state.specs.Fits.{Fits};
 ghost use Rattle.state.specs.Lent.{gone_on};

@@ -1,4 +1,6 @@
 //! Reach and use map: what a process may touch, by the estimate.
+#![tactic(auto)]
+
 ghost use Rattle.std.specs.Prelude.{◌≡◌, ◌<◌, get_or};
 ghost use Rattle.sets.specs.Lists.{table};
 ghost use Rattle.sets.specs.Bits.{accept_bit, mem, sites, join, grant, joins};

@@ -1,4 +1,6 @@
 //! The form of a row.
+#![tactic(auto)]
+
 ghost use Rattle.std.specs.Prelude.{◌≡◌, true, List, ℕ, length, drop};
 ghost use Rattle.klaim.specs.Rows.{split, comma, at, number, site_field, var_field, rights_field, box_rights_field, line_form, row_n, row_pair, row_d, row_tuple, row_l, row_b, row_q, row_form, row_of};
 ghost use Rattle.text.specs.Pieces.{Cut};

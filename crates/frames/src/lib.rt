@@ -1,4 +1,6 @@
 //! Many cases in one text: for each a row with its length in bytes as a decimal number, then exactly that many bytes.
+#![tactic(auto)]
+
 ghost use Rattle.std.specs.Prelude.{◌≡◌, ◌<◌, ◌≤◌, length};
 
 // Room for all cases. A function of its own keeps the zeros out of what is to be proved of a program.

@@ -1,4 +1,6 @@
 //! The tests of a row that need no other row: its limits, its sites, its template.
+#![tactic(auto)]
+
 ghost use Rattle.std.specs.Prelude.{◌≡◌, true, not, ◌<◌};
 ghost use Rattle.sets.specs.Lists.{all};
 ghost use Rattle.klaim.specs.Reader.{in_limits, absent};

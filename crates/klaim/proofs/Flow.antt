@@ -66,7 +66,7 @@ map_none true none e = (refl, refl)
 map_none true (some x) e = absurd (some_none e)
 map_none false o e = absurd (some_none e)
 
-first_not_none : {A : Type 0} (f : A → Bool) {xs : List A} {x : A} → Elem x xs → first_not f xs ≡ none → f x ≡ true
+first_not_none : {A : Type 0} (f : A → Bool) {x : A} {xs : List A} → Elem x xs → first_not f xs ≡ none → f x ≡ true
 unfolding first_not
 first_not_none f (first {y = y} {ys = ys} e) t = ap f e ∙ (map_none (f y) (first_not f ys) t).0
 first_not_none f (later {y = y} {ys = ys} h) t = first_not_none f h (map_none (f y) (first_not f ys) t).1

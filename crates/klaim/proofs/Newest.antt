@@ -65,6 +65,7 @@ pub rising_less : (rs : List ℕ) (r : ℕ) → rising (rs ++ (r ∷ [])) ≡ tr
 unfolding rising
 rising_less (x ∷ rs) r t s (first e) = subst (λ (z : ℕ). z < r) (sym e) (ltb_lt x r (all_last (ltb x) rs r (and_l _ _ t)))
 rising_less (x ∷ rs) r t s (later i) = rising_less rs r (and_r _ _ t) s i
+rising_less [] r t s x'' = elim x'' [ ]
 
 -- there are no more of them than numbers below the last one
 rising_from : (b : ℕ) (rs : List ℕ) (r : ℕ) → b ≤ r → rising (rs ++ (r ∷ [])) ≡ true → ((s : ℕ) → Elem s rs → b ≤ s) → b + length rs ≤ r

@@ -1,4 +1,5 @@
 //! The names that targets and fields are made of. The definitions of documents 01 and 02 stand in specs/.
+#![tactic(auto)]
 
 // "A site number and a variable number are different sorts": Loc and LocVar of document 001.
 #[derive(Drop)]

@@ -1,4 +1,6 @@
 //! What the fields of a cut row say, and the form of a process line.
+#![tactic(auto)]
+
 ghost use Rattle.std.specs.Prelude.{◌≡◌, true, List, ℕ, ◌+◌, ◌-◌, ◌<◌, drop};
 ghost use Rattle.sets.specs.Lists.{◌&◌};
 ghost use Rattle.klaim.specs.Rows.{split, comma, at, number, site_field, var_field, rights_field, box_rights_field, line_nil, line_par, line_rep, line_out, line_get, line_eval, line_accept, line_form};

@@ -1,4 +1,6 @@
 //! The March listing, from bytes to bytes.
+#![tactic(auto)]
+
 ghost use Rattle.std.specs.Prelude.{◌≡◌, [], ◌∷◌, ◌+◌, ◌*◌, ◌<◌, ◌≤◌, length};
 ghost use Rattle.klaim.specs.Limits.{site_limit, report_size};
 ghost use Rattle.sets.specs.Lists.{table};

@@ -1,3 +1,5 @@
+#![tactic(auto)]
+
 // Runs `listing::list` on many cases from one input, framed as `frames` says: for each a row `case,K` and its listing.
 ghost use Rattle.std.specs.Prelude.{◌<◌};
 

@@ -1,4 +1,6 @@
 //! Reads a net, a row `.` and an estimate from the file that its argument names or from standard input, and writes the March listing.
+#![tactic(auto)]
+
 use streams::Ending;
 
 // A byte more than an input may have, so that a longer one is seen to be longer.

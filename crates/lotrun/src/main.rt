@@ -1,3 +1,5 @@
+#![tactic(auto)]
+
 // Runs an engine script from the file that its argument names or from standard input: net rows, a row `.`, estimate rows, a row `.`
 // and commands; one row for each command as soon as it is there, and at the end the state, on standard output.
 use streams::Ending;

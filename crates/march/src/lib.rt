@@ -1,1 +1,2 @@
 //! The examples of document 01 that are proved of its definitions; no running code.
+#![tactic(auto)]

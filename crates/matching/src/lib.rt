@@ -1,4 +1,6 @@
 //! Rows of tuples held against sets of sites: one set for a tuple's site, and one for each field.
+#![tactic(auto)]
+
 ghost use Rattle.std.specs.Prelude.{◌≡◌, true, not, List, map, ℕ, ◌<◌, ◌≤◌, ◌+◌, ◌*◌, ◌^◌, min, ltb, length, get_or, take, set, replicate};
 ghost use Rattle.std.specs.Int.Bits.{bit_or};
 ghost use Rattle.sets.specs.Lists.{◌&◌, either, imp, all, any, keep, same, below, fits, product};

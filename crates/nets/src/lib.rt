@@ -1,4 +1,6 @@
 //! A net, read from its bytes.
+#![tactic(auto)]
+
 ghost use Rattle.std.specs.Prelude.{◌≡◌, true, List, [], ◌∷◌, ◌++◌, map, ℕ, ◌<◌, length};
 ghost use Rattle.klaim.specs.Limits.{boxes_size};
 ghost use Rattle.klaim.specs.Rows.{Row, group_t};

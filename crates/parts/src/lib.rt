@@ -1,4 +1,6 @@
 //! An input in two parts: the net before the first row `.`, the estimate behind it.
+#![tactic(auto)]
+
 ghost use Rattle.std.specs.Prelude.{◌≡◌, true, ◌<◌, ◌≤◌, length, drop};
 ghost use Rattle.sets.specs.Lists.{◌&◌};
 ghost use Rattle.klaim.specs.Listing as Listing;

@@ -1,4 +1,6 @@
 //! A line put into the table of lines, and a tuple into a table of tuples, behind those that stand there.
+#![tactic(auto)]
+
 ghost use Rattle.std.specs.Prelude.{◌≡◌, [], ◌∷◌, ◌++◌, ◌+◌, ◌*◌, ◌<◌, length};
 ghost use Rattle.tables.specs.View.{line_of, lines_view, row_at, rows_view};
 ghost use Rattle.places.specs.Places.{Put};

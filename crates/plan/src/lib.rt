@@ -1,4 +1,6 @@
 //! What a step of a thread comes to by the tests before 26.
+#![tactic(auto)]
+
 ghost use Rattle.std.specs.Prelude.{◌≡◌, true, false, cond, [], ◌∷◌, map, ℕ, suc, ◌<◌, ◌≤◌, eqb, ltb, length, get_or, take};
 ghost use Rattle.std.proofs.Math.ListN.{get_elem?};
 ghost use Rattle.sets.specs.Lists.{among, splice};

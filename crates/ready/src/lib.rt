@@ -1,4 +1,6 @@
 //! The door called by itself, and the lowest thread that can make a bare step.
+#![tactic(auto)]
+
 ghost use Rattle.std.specs.Prelude.{◌≡◌, map, ◌<◌, ◌≤◌, length, get_or, take};
 ghost use Rattle.sets.specs.Lists.{◌&◌, any};
 ghost use Rattle.klaim.specs.Process.{line_at, tree};

@@ -1,4 +1,6 @@
 //! An arrival's lines moved behind the present ones.
+#![tactic(auto)]
+
 ghost use Rattle.std.specs.Prelude.{◌≡◌, true, ◌++◌, map, ◌+◌, ◌%◌, ◌≤◌, ◌<◌, length};
 ghost use Rattle.klaim.specs.Process.{move, ordered};
 ghost use Rattle.tables.specs.View.{lines_view};

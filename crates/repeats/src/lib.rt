@@ -1,4 +1,6 @@
 //! Whether a row repeats one of the rows above it, read off the tables that hold them.
+#![tactic(auto)]
+
 ghost use Rattle.std.specs.Prelude.{◌≡◌, true, cond, List, [], ◌∷◌, ◌++◌, map, ◌+◌, ◌*◌, ◌^◌, ◌<◌, ◌≤◌, eqb, length, take};
 ghost use Rattle.sets.specs.Lists.{All, any, either};
 ghost use Rattle.klaim.specs.Rows.{Row, group_d, group_l, group_b};

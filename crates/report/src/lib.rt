@@ -1,4 +1,6 @@
 //! The report, and whether a process adds nothing to one.
+#![tactic(auto)]
+
 ghost use Rattle.std.specs.Prelude.{◌≡◌, ◌<◌, ◌/◌, ◌%◌, eqb, length, get_or};
 ghost use Rattle.sets.specs.Lists.{table, all, below};
 ghost use Rattle.sets.specs.Bits.{mem, join, grant, less as without};

@@ -1,4 +1,6 @@
 //! The rows of the March listing, each written from `at` on into a lent buffer.
+#![tactic(auto)]
+
 ghost use Rattle.std.specs.Prelude.{◌≡◌, [], ◌∷◌, ◌+◌, ◌≤◌, length};
 ghost use Rattle.klaim.specs.Listing.{numeral, site_name, letters, row};
 ghost use Rattle.writer.specs.Wrote.{Wrote, field};

@@ -1,4 +1,6 @@
 //! The rules for out, in and read, and eval, of a process line.
+#![tactic(auto)]
+
 ghost use Rattle.std.specs.Prelude.{◌≡◌, ◌∷◌, map, ℕ, ◌<◌, ◌≤◌, ◌+◌, length, take, get_or};
 ghost use Rattle.sets.specs.Lists.{◌&◌, imp, all, below};
 ghost use Rattle.sets.specs.Bits.{mem, within as isWithin};

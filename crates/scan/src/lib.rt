@@ -1,4 +1,6 @@
 //! The rows of a text, one after the other: the row at a place, and the tests of it that need no table.
+#![tactic(auto)]
+
 ghost use Rattle.std.specs.Prelude.{◌≡◌, true, not, cond, ◌∷◌, ◌+◌, ◌<◌, eqb, length};
 ghost use Rattle.sets.specs.Lists.{◌&◌, either};
 ghost use Rattle.klaim.specs.Rows.{newline, group_q};

@@ -1,3 +1,5 @@
+#![tactic(auto)]
+
 // Runs `scripts::run` on many cases from one input, framed as `frames` says: for each a row `case,K` and what its script prints.
 ghost use Rattle.std.specs.Prelude.{◌<◌};
 

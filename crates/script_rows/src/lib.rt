@@ -1,4 +1,6 @@
 //! The rows of an input that comes in pieces: a buffer holds what has come and is not done with, a window says where it stands.
+#![tactic(auto)]
+
 ghost use Rattle.std.specs.Prelude.{◌≡◌, not, ◌+◌, ◌<◌, ◌≤◌, length};
 ghost use Rattle.script_rows.specs.Window.{row_there, input_ended, more_to_come, Within, Kept, Found, Alone, dot_row, Dotted, LongRow, Seeks, Turned, Roomy, Given, Read};
 

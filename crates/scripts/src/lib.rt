@@ -1,5 +1,7 @@
 //! An engine script, run as it comes: net, estimate and commands in, one row out for each command as soon as it is there, and
 //! the state at the end. A function that prints answers false where that failed.
+#![tactic(auto)]
+
 ghost use Rattle.std.specs.Prelude.{◌≡◌, ◌≤◌, length};
 ghost use Rattle.script_rows.specs.Window.{Within};
 ghost use Rattle.commands.specs.Asked.{unread};

@@ -1,4 +1,6 @@
 //! How the engine begins, from the bytes of a net and an estimate.
+#![tactic(auto)]
+
 ghost use Rattle.std.specs.Prelude.{◌≡◌, [], ◌++◌, ℕ, ◌+◌, ◌*◌, ◌<◌, ◌≤◌, length, get_or};
 ghost use Rattle.sets.specs.Lists.{concat};
 ghost use Rattle.klaim.specs.Net as Spec;

@@ -1,4 +1,6 @@
 //! The engine's state, by value.
+#![tactic(auto)]
+
 ghost use Rattle.std.specs.Prelude.{◌≡◌, ◌<◌, cond};
 ghost use Rattle.klaim.specs.Reader.{refused as refusedOf, gives};
 ghost use Rattle.klaim.specs.Engine.{silent as silentOf, performed};

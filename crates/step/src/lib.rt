@@ -1,4 +1,6 @@
 //! The bare and the guarded step of the engine.
+#![tactic(auto)]
+
 ghost use Rattle.std.specs.Prelude.{◌≡◌, false, cond, not, [], ◌∷◌, ◌++◌, ◌+◌, ◌-◌, ◌<◌, ◌≤◌, eqb, leb, length};
 ghost use Rattle.sets.specs.Lists.{◌&◌, either, splice};
 ghost use Rattle.klaim.specs.Net.{Net};

@@ -1,4 +1,6 @@
 //! A row of good form, within limits, put into the table that holds the rows of its group.
+#![tactic(auto)]
+
 ghost use Rattle.std.specs.Prelude.{◌≡◌, true, List, [], ◌∷◌, ◌++◌, ℕ, ◌+◌, ◌<◌, ◌^◌, length, get_or};
 ghost use Rattle.klaim.specs.Rows.{Row, group_d, group_l, group_q, group_b};
 ghost use Rattle.klaim.specs.Reader.{in_limits, of_group, nth, gather, pair_place, box_place, put_boxes, root_of};

@@ -1,5 +1,7 @@
 //! What a program reads and writes: the file that its argument names, or else standard input, and standard output.
 //! A failed call is told apart from the end of the input. A call that a signal interrupted is made again.
+#![tactic(auto)]
+
 ghost use Rattle.std.specs.Prelude.{◌≡◌, ◌≤◌, length};
 ghost use Rattle.io.specs.Counts.{IsPrefixLen, clamp_len};
 ghost use Rattle.streams.specs.Got.{fails};

@@ -1,4 +1,6 @@
 //! A net and an estimate as tables of numbers, and a process line taken out of its table.
+#![tactic(auto)]
+
 ghost use Rattle.std.specs.Prelude.{◌≡◌, List, ℕ, ◌<◌, ◌≤◌, min, get_or, take};
 ghost use Rattle.klaim.specs.Process.{line_at};
 ghost use Rattle.klaim.specs.State.{is_nil};

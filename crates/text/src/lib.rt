@@ -1,4 +1,6 @@
 //! Bytes cut into rows and fields, and what a field says.
+#![tactic(auto)]
+
 ghost use Rattle.std.specs.Prelude.{◌≡◌, [], ◌∷◌, ◌+◌, ◌-◌, ◌<◌, ◌≤◌, length, set, take, drop, eqb};
 ghost use Rattle.sets.specs.Lists.{either, same as sameBytes};
 ghost use Rattle.sets.specs.Bits.{every_right};

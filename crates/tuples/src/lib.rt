@@ -1,4 +1,6 @@
 //! Tuples in their table, and a line's template held against one for a thread.
+#![tactic(auto)]
+
 ghost use Rattle.std.specs.Prelude.{◌≡◌, ◌∷◌, [], map, suc, ◌+◌, ◌-◌, ◌*◌, ◌<◌, ◌≤◌, eqb, length, take};
 ghost use Rattle.sets.specs.Lists.{splice};
 ghost use Rattle.klaim.specs.Analysis.{slot_match};

@@ -1,4 +1,6 @@
 //! The rights of a site that a root's use map there or its E rows have, and how many of its home policy they are.
+#![tactic(auto)]
+
 ghost use Rattle.std.specs.Prelude.{◌≡◌, ◌<◌, ◌+◌, ◌*◌, eqb, length, get_or};
 ghost use Rattle.sets.specs.Lists.{table};
 ghost use Rattle.sets.specs.Bits.{join, grant, joins};

@@ -1,4 +1,6 @@
 //! The verdict on a net and its estimate: accepted, or the first broken rule.
+#![tactic(auto)]
+
 ghost use Rattle.std.specs.Prelude.{◌≡◌, true, ◌≤◌, length};
 ghost use Rattle.sets.specs.Lists.{all, concat};
 ghost use Rattle.klaim.specs.Net.{Net, Estimate};

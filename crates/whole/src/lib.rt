@@ -1,4 +1,6 @@
 //! Tests over a whole text: its lines in order, each named once, its roots closed.
+#![tactic(auto)]
+
 ghost use Rattle.std.specs.Prelude.{◌≡◌, List, [], ◌∷◌, map, ℕ, ◌+◌, ◌<◌, ◌≤◌, min, eqb, ltb, length, take, get_or};
 ghost use Rattle.sets.specs.Lists.{◌&◌, all, empty, concat, below, ◌⧺◌};
 ghost use Rattle.sets.specs.Bits.{joins};

@@ -1,4 +1,6 @@
 //! The call that sends the newest arrival away.
+#![tactic(auto)]
+
 ghost use Rattle.std.specs.Prelude.{◌≡◌, ◌≤◌, leb};
 ghost use Rattle.sets.specs.Lists.{any};
 ghost use Rattle.threads.specs.View.{threads_view};

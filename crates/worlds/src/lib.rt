@@ -1,4 +1,6 @@
 //! A net and its estimate, read from their bytes.
+#![tactic(auto)]
+
 ghost use Rattle.std.specs.Prelude.{◌≡◌};
 ghost use Rattle.klaim.specs.Reader.{gives, and_then, read_estimate, read_both};
 ghost use Rattle.nets.specs.Read.{net_answer};

@@ -1,5 +1,7 @@
 //! Writing into a lent buffer: bytes, texts, numbers, names of sites, letters of rights.
 //! Each function that is lent a buffer writes from `at` on and answers the place behind what it wrote.
+#![tactic(auto)]
+
 ghost use Rattle.std.specs.Prelude.{◌≡◌, [], ◌∷◌, ◌+◌, ◌<◌, ◌≤◌, length};
 ghost use Rattle.klaim.specs.Listing.{numeral, site_name, letters};
 ghost use Rattle.writer.specs.Wrote.{Wrote};
