@@ -17,7 +17,7 @@ use tables::LINES;
 use text::GROUP_Q;
 
 // The lines of an arrival, or the number of a refusal and its row; the number is 0 if there is none.
-#[derive(Drop)]
+#[derive(Clone, Copy)]
 pub struct ArrivalRead {
     pub number: u8,
     pub row: usize,
@@ -26,7 +26,7 @@ pub struct ArrivalRead {
 }
 
 // The rows alone, and whether their numbers are in turn.
-#[derive(Drop)]
+#[derive(Clone, Copy)]
 struct ArrivalRows {
     number: u8,
     row: usize,

@@ -15,7 +15,7 @@ use verdict::Verdict;
 use worlds::WorldRead;
 
 // What check answers: accepted, the first broken rule, or a refusal with its row.
-#[derive(Drop)]
+#[derive(Clone, Copy)]
 pub enum Answer {
     Accepted,
     BrokenTuple(u16),

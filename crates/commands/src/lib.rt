@@ -16,7 +16,7 @@ pub const ROW_LIMIT: usize = 1048576;
 pub const ARRIVAL_LIMIT: usize = 65536;
 
 // A command: its kind, and its three numbers where it has them.
-#[derive(Drop)]
+#[derive(Clone, Copy)]
 pub struct Command {
     pub kind: u8,
     pub a: usize,
@@ -48,7 +48,7 @@ pub const NONE: u8 = 8;
 pub const UNREAD: u8 = 9;
 
 // What an input asks next, and where: the rows of a `bring` stand from `from` to `row`.
-#[derive(Drop)]
+#[derive(Clone, Copy)]
 pub struct Asked {
     pub command: Command,
     pub window: Window,

@@ -17,7 +17,7 @@ use tables::{Estimate, TUPLES};
 use text::{GROUP_A, GROUP_B, GROUP_E};
 
 // An estimate, or the number of a refusal and its row; the number is 0 if there is none.
-#[derive(Drop)]
+#[derive(Clone, Copy)]
 pub struct EstimateRead {
     pub number: u8,
     pub row: usize,

@@ -118,7 +118,7 @@ fn brought(state: State, arrival: &[u8]) -> State
 }
 
 // Steps made: the tuples and the run behind them, and how many of them were performed.
-#[derive(Drop)]
+#[derive(Clone, Copy)]
 pub struct Walked {
     pub tuples: [u8; 1536],
     pub run: Run,

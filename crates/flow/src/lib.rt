@@ -80,7 +80,7 @@ pub fn box_sure(boxes: &[u8; 1056], k: u8, set: u32, t: u8) -> u8
 }
 
 // Use map: rights for each site.
-#[derive(Drop)]
+#[derive(Clone, Copy)]
 pub struct UseMap {
     pub rights: [u8; 32],
 }
@@ -171,7 +171,7 @@ impl UseMap {
 }
 
 // What a line adds to a use map: the lines that follow, then a right on a target, or a sandbox.
-#[derive(Drop)]
+#[derive(Clone, Copy)]
 enum Part {
     Nothing,
     Both(u8, u8),

@@ -17,7 +17,7 @@ use text::{
 // A row: its group, 0 where it is not of its form. `size` is the n of an N row, `variable` the u of a B row, `own` the line of
 // an L row and the number of a Q row; `line` has the sandbox of a D row, the sites of other rows as target and fields, and the
 // line of a Q row.
-#[derive(Drop)]
+#[derive(Clone, Copy)]
 pub struct RowData {
     pub group: u8,
     pub rights: u8,

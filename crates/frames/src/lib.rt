@@ -9,7 +9,7 @@ pub fn room() -> [u8; 2097152] {
 }
 
 // Where a case begins and ends; none, where the frame is broken.
-#[derive(Drop)]
+#[derive(Clone, Copy)]
 pub struct Frame {
     pub good: bool,
     pub from: usize,

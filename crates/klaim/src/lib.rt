@@ -2,14 +2,14 @@
 #![tactic(auto)]
 
 // "A site number and a variable number are different sorts": Loc and LocVar of document 001.
-#[derive(Drop)]
+#[derive(Clone, Copy)]
 pub struct Site(pub u8);
 
-#[derive(Drop)]
+#[derive(Clone, Copy)]
 pub struct Var(pub u8);
 
 // A target or a field: a site, `self`, or a variable.
-#[derive(Drop)]
+#[derive(Clone, Copy)]
 pub enum Loc {
     At(Site),
     Here,
@@ -17,7 +17,7 @@ pub enum Loc {
 }
 
 // A field of a template: a value, `!u`, or `_`, the "field that takes anything" of document 02, No. 1.
-#[derive(Drop)]
+#[derive(Clone, Copy)]
 pub enum Slot {
     Value(Loc),
     Bind(Var),

@@ -77,7 +77,7 @@ fn behind(n: usize, k: usize) -> usize
 }
 
 // The fields of a tuple or a template: how many there are, and the first four.
-#[derive(Drop)]
+#[derive(Clone, Copy)]
 pub struct Four {
     pub count: usize,
     pub a: Name,
@@ -138,7 +138,7 @@ pub fn fits(f: Four, most: u8) -> bool
 }
 
 // The words of a process line: the kind, how many there are, the numbers at places 1 to 4, the name at 2, the fields from 3 on.
-#[derive(Drop)]
+#[derive(Clone, Copy)]
 pub struct Words {
     pub kind: u8,
     pub count: usize,
@@ -176,7 +176,7 @@ fn words_at(row: &[u8], edges: &[usize; EDGES], n: usize) -> Words
 }
 
 // A process line: its kind, 0 where it is not of its form; the lines that it names, its sandbox, its target, its fields.
-#[derive(Drop)]
+#[derive(Clone, Copy)]
 pub struct LineData {
     pub kind: u8,
     pub next: u16,

@@ -62,7 +62,7 @@ fn choices(reaches: [u32; 5], m: usize) -> u32
 const COLUMNS: usize = 6;
 
 // A set of rows: row i is bit i % 64 of number i / 64.
-#[derive(Drop)]
+#[derive(Clone, Copy)]
 pub struct RowSet {
     a: u64,
     b: u64,

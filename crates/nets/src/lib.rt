@@ -21,7 +21,7 @@ use tables::{BOX, BOXES, LINES, Net, OWN, SANDBOXES, THREADS, TUPLES};
 use text::{GROUP_D, GROUP_L, GROUP_N, GROUP_Q, GROUP_R, GROUP_T, UNSAID};
 
 // A net, or the number of a refusal and its row; the number is 0 if there is none.
-#[derive(Drop)]
+#[derive(Clone, Copy)]
 pub struct NetRead {
     pub number: u8,
     pub row: usize,
@@ -148,7 +148,7 @@ fn store(
 }
 
 // The number of a refusal, 0 if there is none, and its row.
-#[derive(Drop)]
+#[derive(Clone, Copy)]
 pub struct Refusal {
     pub number: u8,
     pub row: usize,

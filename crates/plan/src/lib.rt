@@ -21,7 +21,7 @@ use threads::Thread;
 
 // What a step comes to: `stop` is the number of a refusal, or 0; a silent step, or a right used on a target; the thread behind the
 // step, one more thread if `adds`, and the tuples: KEPT, one more (`row`), or tuple m taken out.
-#[derive(Drop)]
+#[derive(Clone, Copy)]
 pub struct Move {
     pub stop: u8,
     pub silent: bool,

@@ -24,7 +24,7 @@ use tables::Action;
 use threads::Thread;
 
 // The door's answer, or the number of its refusal.
-#[derive(Drop)]
+#[derive(Clone, Copy)]
 pub enum DoorAnswer {
     Passes,
     Closed,
@@ -32,7 +32,7 @@ pub enum DoorAnswer {
 }
 
 // The lowest place of a thread that can make a bare step, or none.
-#[derive(Drop)]
+#[derive(Clone, Copy)]
 pub enum ReadyAnswer {
     None,
     Place(u8),
@@ -188,7 +188,7 @@ fn can_step<'a>(
 }
 
 // What the test of a thread reads beside it: the tables, and how many threads there are.
-#[derive(Drop)]
+#[derive(Clone, Copy)]
 pub struct Context {
     pub lines: [u8; 2560],
     pub nlines: usize,

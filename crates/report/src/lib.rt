@@ -109,7 +109,7 @@ fn add_holds(bytes: &mut [u8; 1024], hold: &[u8; 1024], homes: &[u8; 1024])
 }
 
 // What a line adds to the report: the lines that follow, then the target, the body and the sandbox of an eval.
-#[derive(Drop)]
+#[derive(Clone, Copy)]
 enum Evals {
     Nothing,
     Both(u8, u8),

@@ -42,7 +42,7 @@ fn allowed(slot: Slot, binds: &[u32; 32]) -> u32
 }
 
 // What is asked of a field: its reach, what it agrees with, or what it may be bound to.
-#[derive(Drop)]
+#[derive(Clone, Copy)]
 enum Ask {
     Reach,
     Wanted,

@@ -15,7 +15,7 @@ use text::{EDGES, GROUP_A, GROUP_L, GROUP_N, GROUP_Q, GROUP_T};
 
 // What is kept of the rows above: the n of the text, the tuples, roots and lines that stand in its tables, the last group, whether
 // Q rows are numbered in turn, how many rows; `number` is that of the refusal of the last of them, or 0.
-#[derive(Drop)]
+#[derive(Clone, Copy)]
 pub struct Tally {
     pub size: u16,
     pub tuples: usize,
@@ -44,7 +44,7 @@ pub fn start(n: u8) -> Tally
 }
 
 // A row, and where it ends.
-#[derive(Drop)]
+#[derive(Clone, Copy)]
 pub struct NextRow {
     pub row: RowData,
     pub end: usize,

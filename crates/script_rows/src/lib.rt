@@ -8,7 +8,7 @@ use streams::Got;
 
 // The bytes of the input from `from` to `to` are in the buffer; those before are done with. The row that was asked for begins
 // at `row` and ends at `next`, its 0A included. While its end is looked for, `next` says how far.
-#[derive(Drop)]
+#[derive(Clone, Copy)]
 pub struct Window {
     pub fd: i32,
     // Whether more may come from the descriptor.

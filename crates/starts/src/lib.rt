@@ -21,7 +21,7 @@ use threads::Thread;
 use worlds::WorldRead;
 
 // A list of threads.
-#[derive(Drop)]
+#[derive(Clone, Copy)]
 struct Threads {
     items: [Thread; 64],
     count: usize,

@@ -12,7 +12,7 @@ use threads::Thread;
 // What the call behind the state answered: `number` is that of a refusal, with its row, or 0. `event` is what a call that was not
 // refused did: BROUGHT or WITHDRAWN an arrival, SILENT, or PERFORMED a right on a target. `site` is the line of the arrival's root,
 // or the thread's site. A call by value writes these numbers one by one: a struct put in their place would copy the threads beside it.
-#[derive(Drop)]
+#[derive(Clone, Copy)]
 pub struct Told {
     pub number: u8,
     pub row: usize,
@@ -31,7 +31,7 @@ pub const PERFORMED: u8 = 2;
 pub const WITHDRAWN: u8 = 3;
 
 // A net but for its lines, as `tables::Net` has it.
-#[derive(Drop)]
+#[derive(Clone, Copy)]
 pub struct Ground {
     pub size: u8,
     pub homes: [u8; 1024],
@@ -44,7 +44,7 @@ pub struct Ground {
 
 // What a step changes beside the table of tuples: the threads, how many tuples there are, and what the call behind the state
 // answered.
-#[derive(Drop)]
+#[derive(Clone, Copy)]
 pub struct Run {
     pub threads: [Thread; 64],
     pub nthreads: usize,
@@ -54,7 +54,7 @@ pub struct Run {
 
 // The net, the estimate, the lines with those of the arrivals (the first `own` are the net's), the arrivals' roots, for each
 // arrival the set of sites at which it is sound (what the door tests without a sandbox), the tuples, and what else a step changes.
-#[derive(Drop)]
+#[derive(Clone, Copy)]
 pub struct State {
     pub net: Ground,
     pub own: usize,

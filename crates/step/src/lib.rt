@@ -77,7 +77,7 @@ fn tuples_after(n: usize, change: u8) -> usize
 
 // What a move does to the lists: whether its thread comes to `nil`, whether one more enters; how many threads are left, and how
 // many threads and tuples there are in the end.
-#[derive(Drop)]
+#[derive(Clone, Copy)]
 pub struct Sizes {
     pub nil: bool,
     pub more: bool,
@@ -174,7 +174,7 @@ fn change_tuples(rows: &mut [u8; 1536], n: usize, m: usize, change: u8, row: [u8
 }
 
 // What a step comes to: the number that refuses it, or 0; its move, the sizes of the lists behind it.
-#[derive(Drop)]
+#[derive(Clone, Copy)]
 pub struct Decision {
     pub number: u8,
     pub plan: Move,

@@ -12,14 +12,14 @@ use libc::{STDERR_FILENO, STDIN_FILENO, STDOUT_FILENO};
 const MESSAGE: usize = 4160;
 
 // What a read gave: a failure, or how many bytes came, 0 at the end of the input.
-#[derive(Drop)]
+#[derive(Clone, Copy)]
 pub struct Got {
     pub failed: bool,
     pub count: usize,
 }
 
 // How a program's work ended: it was done, a read of its input failed, or a write of its output did.
-#[derive(Drop)]
+#[derive(Clone, Copy)]
 pub enum Ending {
     Done,
     Unread,
@@ -28,7 +28,7 @@ pub enum Ending {
 
 // Where a program reads from: a descriptor, and how many bytes the file's name has, 0 for standard input. It is not ready
 // where there is nothing to read: the help was printed, or a message told why.
-#[derive(Drop)]
+#[derive(Clone, Copy)]
 pub struct Source {
     pub ready: bool,
     pub fd: i32,

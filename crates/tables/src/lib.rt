@@ -57,7 +57,7 @@ pub const SORT: u8 = 32;
 
 // A net as read. A policy byte stands at 32 * s + t, a sandbox's at 33 * k + t (`self` is t = 32).
 // A tuple takes 6 bytes: how many sites, then the sites; a root 2: its site and its line; a line 10 (see `action_at`).
-#[derive(Drop)]
+#[derive(Clone, Copy)]
 pub struct Net {
     pub size: u8,
     pub homes: [u8; 1024],
@@ -71,7 +71,7 @@ pub struct Net {
 }
 
 // An estimate as read: a set of sites for each variable, tuples, policy bytes.
-#[derive(Drop)]
+#[derive(Clone, Copy)]
 pub struct Estimate {
     pub binds: [u32; 32],
     pub stand: [u8; 1536],
@@ -80,7 +80,7 @@ pub struct Estimate {
 }
 
 // What a process line does; `next` is the line that follows, `count` the number of fields.
-#[derive(Drop)]
+#[derive(Clone, Copy)]
 pub enum Action {
     Nil,
     Par {

@@ -77,7 +77,7 @@ fn goes_on(s: &[u8], i: usize) -> bool
 }
 
 // A row that was cut: how many fields it has, and where it ends.
-#[derive(Drop)]
+#[derive(Clone, Copy)]
 pub struct CutRow {
     pub count: usize,
     pub end: usize,
@@ -207,7 +207,7 @@ pub fn number(f: &[u8]) -> u16
 }
 
 // A decimal number of any length; `is` says whether a field is one. What does not fit is as good as the largest.
-#[derive(Drop)]
+#[derive(Clone, Copy)]
 pub struct Spelled {
     pub is: bool,
     pub value: usize,
@@ -344,7 +344,7 @@ pub fn box_rights(f: &[u8]) -> u8
 }
 
 // What a target or a field names.
-#[derive(Drop)]
+#[derive(Clone, Copy)]
 pub struct Name {
     pub kind: u8,
     pub number: u16,

@@ -14,7 +14,7 @@ ghost use Rattle.threads.specs.View.{bindings_view, thread_view, threads_view, r
 use klaim::{Loc, Site, Var};
 
 // A thread: its site, its policy, its line; the set of the variables that are bound, and the site of each.
-#[derive(Drop)]
+#[derive(Clone, Copy)]
 pub struct Thread {
     pub site: Site,
     pub policy: [u8; 32],

@@ -12,7 +12,7 @@ ghost use Rattle.report.specs.Given.{Rooted};
 ghost use Rattle.broken.specs.Lowest.{lowest, found};
 ghost use Rattle.verdict.specs.Verdict.{verdict_view, Tabled, Judgeable};
 
-#[derive(Drop)]
+#[derive(Clone, Copy)]
 pub enum Verdict {
     Accepted,
     BrokenTuple(u16),

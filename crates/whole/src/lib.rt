@@ -26,7 +26,7 @@ fn child_fits(q: usize, n: usize, child: u8) -> bool
 }
 
 // The lines that a line names.
-#[derive(Drop)]
+#[derive(Clone, Copy)]
 enum Children {
     Zero,
     One(u8),
@@ -261,7 +261,7 @@ fn of_both(target: Loc, a: u32, b: u32) -> u32
 
 // Where a line names variables: the line that follows, a target, how many fields, and how many of these may bind;
 // or two lines and a target.
-#[derive(Drop)]
+#[derive(Clone, Copy)]
 enum Names {
     Ends,
     Follows(u8),

@@ -10,7 +10,7 @@ use nets::NetRead;
 use tables::{Estimate, Net};
 
 // A net and its estimate, or the number of a refusal and its row; the number is 0 if there is none.
-#[derive(Drop)]
+#[derive(Clone, Copy)]
 pub struct WorldRead {
     pub number: u8,
     pub row: usize,
