@@ -1,0 +1,16 @@
+use mathlib.Core.Path.{sym, ◌∙◌}
+use Prim.Native.Nat.{◌-◌}
+use Rattle.parts.proofs.Parts.{searched_none, searched_more, searched_found, searched_all}
+use Rattle.parts.proofs.before.Goals as goal
+
+pub loop-i-init : goal.loop-i-init
+loop-i-init c = searched_none _
+
+pub returns-then-parted_at : goal.returns-then-parted_at
+returns-then-parted_at c = searched_found c.loop-i.invariant c.loop-i-test.true (sym c.parted_at.ensures ∙ c.if-parted_at.true)
+
+pub loop-i-preserved : goal.loop-i-preserved
+loop-i-preserved c = searched_more c.loop-i.invariant c.loop-i-test.true (sym c.parted_at.ensures ∙ c.if-parted_at.false)
+
+pub returns : goal.returns
+returns c = searched_all c.loop-i.invariant c.loop-i-test.false

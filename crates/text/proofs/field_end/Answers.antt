@@ -1,0 +1,17 @@
+use mathlib.Core.Path.{refl, sym, ◌∙◌}
+use Prim.Native.Nat.{◌-◌}
+use native.Mathlib.Omega.{arith}
+use Rattle.text.proofs.Slices.{looking_stop, looking_end, looking_more}
+use Rattle.text.proofs.field_end.Goals as goal
+
+pub loop-i-init : goal.loop-i-init
+loop-i-init c = record { low = omega arith; row = refl; field = refl }
+
+pub returns-then-ends : goal.returns-then-ends
+returns-then-ends c = looking_stop c.loop-i.invariant c.loop-i-test.true (sym c.ends.ensures ∙ c.if-ends.true)
+
+pub loop-i-preserved : goal.loop-i-preserved
+loop-i-preserved c = looking_more c.loop-i.invariant c.loop-i-test.true (sym c.ends.ensures ∙ c.if-ends.false)
+
+pub returns : goal.returns
+returns c = looking_end c.loop-i.invariant c.loop-i-test.false
