@@ -1,0 +1,8 @@
+-- `free_vars` meets its contract: at each action the set is what the definition says of the line's process. 256 less the line number falls.
+-- Assumes nothing.
+use Prim.Native.Nat.{◌-◌}
+use Prim.Native.Nat.{◌-◌}
+use Rattle.whole.proofs.+free_vars.Given as goal
+
+abbrev pub decreases-free_vars : goal.decreases-free_vars
+decreases-free_vars l = 256 - l.q

@@ -1,0 +1,6 @@
+use native.Mathlib.Omega.{arith}
+use Rattle.whole.proofs.Counts.{named_more}
+use Rattle.whole.proofs.named.Goals as goal
+
+pub returns : goal.returns
+returns c = λ xs C. named_more c.args.q (omega arith) c.one_more.ensures C

@@ -1,0 +1,35 @@
+use mathlib.Core.Path.{◌≡◌, refl, sym, ◌∙◌}
+use Prim.Native.Nat.{suc, ◌-◌, ◌+◌}
+use native.Mathlib.Omega.{arith}
+use lib.Dec.{ltb}
+use borrow.Author.Tests.{lt-ltb, le-ltb}
+use Rattle.klaim.specs.Net.{Root}
+use Rattle.tables.specs.View.{root_at}
+use Rattle.whole.proofs.Order.{present_all}
+use Rattle.sets.proofs.Shared.{all_yes, all_no, all_end}
+use Rattle.whole.proofs.roots_present.Goals as goal
+
+pub loop-i-init : goal.loop-i-init
+loop-i-init c = (omega arith, refl)
+
+pub loop-i-preserved : goal.loop-i-preserved
+unfolding root_at
+loop-i-preserved c =
+    let at = c.loop-i in
+    let ar = c.args in
+    let e : suc at.i ≡ at.i + 1 = omega arith in
+    (omega arith, at.invariant.1 ∙ all_yes (λ (x : Root). ltb x.line ar.n) ar.m (root_at ar.roots.now) at.i (at.i + 1) (omega arith) e (lt-ltb _ ar.n (omega (arith, c.wide.ensures))))
+
+pub returns-else-wide-n : goal.returns-else-wide-n
+unfolding root_at
+returns-else-wide-n c =
+    let at = c.loop-i in
+    let ar = c.args in
+    sym (present_all ar.n ar.m ar.roots.now ∙ at.invariant.1 ∙ all_no (λ (x : Root). ltb x.line ar.n) ar.m (root_at ar.roots.now) at.i (omega arith) (le-ltb _ ar.n (omega (arith, c.wide.ensures))))
+
+pub returns : goal.returns
+unfolding root_at
+returns c =
+    let at = c.loop-i in
+    let ar = c.args in
+    sym (present_all ar.n ar.m ar.roots.now ∙ at.invariant.1 ∙ all_end (λ (x : Root). ltb x.line ar.n) ar.m (root_at ar.roots.now) at.i (omega arith))
