@@ -1,0 +1,19 @@
+use mathlib.Core.Path.{◌≡◌, refl}
+use Prim.Native.Nat.{◌-◌}
+use native.Mathlib.Omega.{arith}
+use Rattle.sets.specs.Bits.{less}
+use Rattle.sets.proofs.Tables.{filled_none, filled_more, filled_all}
+use Rattle.report.proofs.less_sure.Goals as goal
+
+pub loop-i-init : goal.loop-i-init
+loop-i-init c = (omega arith, omega arith, λ N e. filled_none 0 _ _)
+
+pub loop-i-preserved : goal.loop-i-preserved
+loop-i-preserved c =
+    let at = c.loop-i in
+    (omega arith, at.invariant.1, λ N e. filled_more (at.invariant.2 N e) (omega arith) (rw (c.less.ensures, c.box_sure.ensures N e)))
+
+pub returns : goal.returns
+returns c =
+    let e : c.loop-i.i ≡ 32 = omega arith in
+    λ N q. filled_all (rw e at (c.loop-i.invariant.2 N q)) refl

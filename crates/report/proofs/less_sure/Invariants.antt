@@ -1,0 +1,14 @@
+use mathlib.Core.Path.{◌≡◌}
+use Prim.Native.Nat.{◌≤◌, ◌-◌, ◌<◌}
+use lib.ListN.{get_or, replicate}
+use Rattle.sets.specs.Bits.{less}
+use Rattle.sets.proofs.Tables.{Filled}
+use Rattle.klaim.specs.Net.{Net}
+use Rattle.klaim.specs.Report.{sure}
+use Rattle.report.proofs.less_sure.Given as goal
+
+abbrev pub invariant-loop-i : goal.invariant-loop-i
+invariant-loop-i l = (l.i ≤ 32) × (l.k < 32) × ((N : Net) → N.boxes ≡ l.boxes → Filled 0 (λ t. less (get_or l.old t 0) (sure N l.k l.set t)) (replicate 32 0) l.r l.i)
+
+abbrev pub decreases-loop-i : goal.decreases-loop-i
+decreases-loop-i l = 32 - l.i
