@@ -82,7 +82,7 @@ module _ (r : RowData) (G : row_good r ≡ true) (L : in_limits (row_data r) ≡
   root_row p =
       let P = Shapes.root_row r G L p in
       subst (λ (x : Row). RootRow r.line.target.number r.own x) (sym P.row_is)
-      (record { keyed = refl; root_is = refl; s_low = P.site_low; q_low = P.Line-Low })
+      (record { keyed = refl; root_is = refl; s_low = P.site_low; q_low = P.line_low })
 
   pub tuple_row : tuple_group r.group ≡ true → key (row_data r) ≡ (row_data r).group ∷ (row_data r).sites
   tuple_row p = subst (λ (x : Row). key x ≡ x.group ∷ x.sites) (sym (Shapes.tuple_row r G L p).row_is) (tuple_as _ _ _ _)

@@ -76,7 +76,7 @@ module _ (r : RowData) (G : row_good r ≡ true) (L : in_limits (row_data r) ≡
   variable_at e = let P = bound_row r G L e in (rw P.row_is, P.variable_low)
 
   pub line_at : r.group ≡ group_l → (r.own ≡ nth (row_data r).lines 0) × (r.own < 256)
-  line_at e = let P = root_row r G L e in (rw P.row_is, P.Line-Low)
+  line_at e = let P = root_row r G L e in (rw P.row_is, P.line_low)
 
 -- tables of sets, with one row more
 pub pair_put : {r : RowData} → PairRow r → (t : List ℕ) (i : ℕ) → (i ≡ pair_place (row_data r)) × (i < 1024) → (above : List Row) → t ≡ gather 1024 pair_place (λ x. x.rights) (of_group r.group above) → set t i (join (get_or t i 0) r.rights) ≡ gather 1024 pair_place (λ x. x.rights) (of_group r.group (above ++ (row_data r ∷ [])))
