@@ -98,7 +98,7 @@ module _ (d : ℕ) (row : RowData) (t : Tally) where
 
 -- the tally with a Q row more
 abbrev pub with_line : RowData → Tally → Tally
-with_line row t = record { size = t.size; tuples = t.tuples; roots = t.roots; lines = t.lines + 1; last = row.group; turn = t.turn & eqb row.own_val t.lines; rows = t.rows + 1; number = t.number }
+with_line row t = record { size = t.size; tuples = t.tuples; roots = t.roots; lines = t.lines + 1; last = row.group; turn = t.turn & eqb row.own t.lines; rows = t.rows + 1; number = t.number }
 
 pub counted_line : (row : RowData) (t : Tally) → row.group ≡ group_q → counted_of row t ≡ with_line row t
 unfolding counted_of Tallies.more tuple_group either

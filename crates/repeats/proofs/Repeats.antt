@@ -164,7 +164,7 @@ module _ (row : RowData) (G : row_good row ≡ true) (L : in_limits (row_data ro
   root_seen P s q a b xs {above} K e =
       let R = root_row row G L P in
       let site : s ≡ row.line.target.number = a ∙ ap (λ (x : Root). x.site) R.root_is in
-      let line : q ≡ row.own_val = b ∙ ap (λ (x : Root). x.line) R.root_is in
+      let line : q ≡ row.own = b ∙ ap (λ (x : Root). x.line) R.root_is in
       let g = group_is row G (omega arith) ∙ P in
       ap₂ (λ (s q : ℕ). any (root_same s q) xs) site line
-      ∙ list_seen (row_data row) group_l g refl root_of (root_same row.line.target.number row.own_val) (λ b k q. root_alike (kept_root k q) R (q ∙ sym g)) xs K e
+      ∙ list_seen (row_data row) group_l g refl root_of (root_same row.line.target.number row.own) (λ b k q. root_alike (kept_root k q) R (q ∙ sym g)) xs K e

@@ -104,8 +104,8 @@ module _ {b : Row} (k : Kept b) where
   pub kept_bound : b.group ≡ group_b → BoundRow k.row.variable k.row.line.target.number b
   kept_bound p = subst (λ (x : Row). BoundRow k.row.variable k.row.line.target.number x) k.is (bound_row k.row k.good (kept_low k) (kept_group k ∙ p))
 
-  pub kept_root : b.group ≡ group_l → RootRow k.row.line.target.number k.row.own_val b
-  kept_root p = subst (λ (x : Row). RootRow k.row.line.target.number k.row.own_val x) k.is (root_row k.row k.good (kept_low k) (kept_group k ∙ p))
+  pub kept_root : b.group ≡ group_l → RootRow k.row.line.target.number k.row.own b
+  kept_root p = subst (λ (x : Row). RootRow k.row.line.target.number k.row.own x) k.is (root_row k.row k.good (kept_low k) (kept_group k ∙ p))
 
   pub kept_tuple : tuple_group b.group ≡ true → key b ≡ b.group ∷ b.sites
   kept_tuple p = subst (λ (x : Row). key x ≡ x.group ∷ x.sites) k.is (tuple_row k.row k.good (kept_low k) (rw (kept_group k) p))

@@ -187,7 +187,7 @@ module _ {M : Type 1} {𝓤 : Ura M} (𝓛 : Logic 𝓤) (mem : Memory → SProp
           elem_back ! T.the_row q' ys i.0 no_thread (mach t ∷ []) b o (ltb→lt i.0 n less) $ shuts_slice ! tt T.the_row q' ys b o $
           use0 𝓛 (raw ((Able 𝓛 mem run).pre (to t))) (asks t (every.each i.0 (ltb→lt i.0 n less)) gt) $
           calls_at ! fm (Able 𝓛 mem run) known (to t) (and_then ! (load ! (from ! (stop !)) (look ! 3 refl)) (and_then ! (load ! (from ! (stop !)) (look ! 15 refl)) (no_more !))) (λ u.
-          use1 𝓛 (later (some (λ (r : Bool). (‵ ftrue ⊛ ‵ (bool.own_val r (u ∷ []))) ⊛ raw (ensured 𝓛 callee.ended (callee.clauses 𝓛 mem run) tt (t, (w, tt)) tt r)))) (id⊢ 𝓤 _) $ await ! tt $ pick ! (λ r.
+          use1 𝓛 (later (some (λ (r : Bool). (‵ ftrue ⊛ ‵ (bool.own r (u ∷ []))) ⊛ raw (ensured 𝓛 callee.ended (callee.clauses 𝓛 mem run) tt (t, (w, tt)) tt r)))) (id⊢ 𝓤 _) $ await ! tt $ pick ! (λ r.
           split ! $ move ! (1 ∷ []) $ use1 𝓛 (raw (fact 𝓤 (Tested w t r))) (said t r) $ heard ! (Tested w t r) (λ e. split ! $ drop ! $ facts ! bool (Is bool) (shows 𝓛 bool) r (u ∷ []) (λ is.
           land ! (from ! (stop !)) (init ! 6 refl ((bool_Lawful 𝓛).typed r _ is).0) $ rewrite ! 6 (λ (v : Val). ‵ (fat full_share ty_bool l₆ 0 v)) (ap only is) refl $
           -- [the token; the fractured borrow; _8; …; _0; …]

@@ -97,9 +97,9 @@ module _ {M : Type 1} {𝓤 : Ura M} (𝓛 : Logic 𝓤) (at_mem : Memory → SP
   abbrev Post : Val → SProp 𝓤
   Post = (walk_of 𝓛 f.ended stayed (f.clauses 𝓛 at_mem run)).post ((tt, tt, tt, (xs, (n, (w, tt))), at), tt)
 
-  exits : (r : ℕ) (u : Val) → Found w ys r → ent 𝓤 (sem 𝓛 (usize.own_val r (u ∷ []))) (Post u)
+  exits : (r : ℕ) (u : Val) → Found w ys r → ent 𝓤 (sem 𝓛 (usize.own r (u ∷ []))) (Post u)
   exits r u e =
-      qed 𝓛 (‵ (usize.own_val r (u ∷ [])) ∷ []) ∵
+      qed 𝓛 (‵ (usize.own r (u ∷ [])) ∷ []) ∵
       suffices ! _ (ends_at 𝓛 f.ended stayed (f.clauses 𝓛 at_mem run) ((tt, tt, tt, (xs, (n, (w, tt))), at), tt) u r (tt, (tt, (tt, tt))) (tt, (tt, (tt, tt)))) $ says ! e $
       nothing ! $ nothing ! $ fjoin ! $ nothing ! $ fjoin ! $ nothing ! $ fjoin ! $ nothing ! $ frame ! $ frame ! $ done !
 
@@ -114,9 +114,9 @@ module _ {M : Type 1} {𝓤 : Ura M} (𝓛 : Logic 𝓤) (at_mem : Memory → SP
     abbrev to : (First 𝓛 at_mem run).Ghost
     to = (((α ∷ [], tt), (full_share, tt), tt, (s, (w, tt)), (v ∷ [], (wach ∷ [], tt))), tt)
 
-    asks : ent 𝓤 (⋆ 𝓛 (‵ (flft (α ∷ []) full_share) ∷ ‵ ((ShrSlice (named 0) (α ∷ []) T.the_row).own_val s (v ∷ [])) ∷ [])) ((First 𝓛 at_mem run).pre to)
+    asks : ent 𝓤 (⋆ 𝓛 (‵ (flft (α ∷ []) full_share) ∷ ‵ ((ShrSlice (named 0) (α ∷ []) T.the_row).own s (v ∷ [])) ∷ [])) ((First 𝓛 at_mem run).pre to)
     asks =
-        qed 𝓛 (‵ (flft (α ∷ []) full_share) ∷ ‵ ((ShrSlice (named 0) (α ∷ []) T.the_row).own_val s (v ∷ [])) ∷ []) ∵ says ! every $
+        qed 𝓛 (‵ (flft (α ∷ []) full_share) ∷ ‵ ((ShrSlice (named 0) (α ∷ []) T.the_row).own s (v ∷ [])) ∷ []) ∵ says ! every $
         nothing ! $ owned ! D.the_row (Is D.the_row) (LL.makes D.the_type D'.the_plain 𝓛) w _ gw $ fjoin ! $ move ! (2 ∷ 0 ∷ []) $ fjoin ! $
         nothing ! $ move ! (2 ∷ 0 ∷ []) $ join ! $ frame ! $ done !
 
@@ -137,12 +137,12 @@ module _ {M : Type 1} {𝓤 : Ura M} (𝓛 : Logic 𝓤) (at_mem : Memory → SP
         move ! (4 ∷ []) $ use1 𝓛 (‵ ((arr_parts (shares T.the_row) 64).part full_share xs l₄ 0)) (laid 𝓛 T.the_row tt 64 (LL.makes T.the_type T'.the_plain 𝓛) xs mach l₄ gx) $ fsplit ! $ drop ! $
         use1 𝓛 (‵ (row T.the_row full_share ys l₄ 0) ⊛ ‵ (row T.the_row full_share (leave n xs) l₄ (place 72 0 n))) (cut 𝓛 T.the_row full_share n xs l₄ 0) $ split ! $
         feq_i ! ℕ (length ys) (length ys) refl $ fjoin ! $ lft_new ! tt (λ α. move ! (1 ∷ []) $
-        use1 𝓛 (later (some (λ (γ : GName). ‵ ((ShrSlice (named 0) (α ∷ []) T.the_row).own_val (record { ref_ptr = (l₄, 0); now = ys }) (slice_val (l₄, 0) (length ys) ∷ [])) ⊛ ‵ (flent (α ∷ []) ((arr_parts (shares T.the_row) (length ys)).part full_share ys l₄ 0)))))
+        use1 𝓛 (later (some (λ (γ : GName). ‵ ((ShrSlice (named 0) (α ∷ []) T.the_row).own (record { ref_ptr = (l₄, 0); now = ys }) (slice_val (l₄, 0) (length ys) ∷ [])) ⊛ ‵ (flent (α ∷ []) ((arr_parts (shares T.the_row) (length ys)).part full_share ys l₄ 0)))))
         (lends_shr_slice 𝓛 T.the_row (named 0) (α ∷ []) full_share ys l₄ 0 (subst (Room T.the_row) (sym long) (gn, small))) $ await ! tt $ pick ! (λ γ. split ! $ move ! (2 ∷ 0 ∷ []) $
         use2 𝓛 (raw ((First 𝓛 at_mem run).pre (to gw every l₄ α γ))) (asks gw every l₄ α γ) $
         -- [what `first` asks; the lender's part; the other elements; _6; …; _5; …; _4's end; _3; …; _2; …; _1; …; _0; …]
         calls_at ! fm (First 𝓛 at_mem run) known (to gw every l₄ α γ) (and_then ! (load ! (from ! (stop !)) (look ! 3 refl)) (and_then ! (load ! (from ! (stop !)) (look ! 8 refl)) (no_more !))) (λ u.
-        use1 𝓛 (later (some (λ (r : ℕ). ((‵ (flft (α ∷ []) full_share) ⊛ ‵ ftrue) ⊛ ‵ (usize.own_val r (u ∷ []))) ⊛ raw (ensured 𝓛 callee.ended (callee.clauses 𝓛 at_mem run) (α ∷ [], tt) (s gw every l₄ α γ, (w, tt)) tt r)))) (id⊢ 𝓤 _) $ await ! tt $ pick ! (λ r.
+        use1 𝓛 (later (some (λ (r : ℕ). ((‵ (flft (α ∷ []) full_share) ⊛ ‵ ftrue) ⊛ ‵ (usize.own r (u ∷ []))) ⊛ raw (ensured 𝓛 callee.ended (callee.clauses 𝓛 at_mem run) (α ∷ [], tt) (s gw every l₄ α γ, (w, tt)) tt r)))) (id⊢ 𝓤 _) $ await ! tt $ pick ! (λ r.
         split ! $ move ! (1 ∷ []) $ use1 𝓛 (raw (fact 𝓤 (Found w ys r))) (said gw every l₄ α γ r) $ heard ! (Found w ys r) (λ e. split ! $ split ! $ move ! (2 ∷ []) $
         peeks ! usize (Is usize) (shows 𝓛 usize) r (u ∷ []) (λ is.
         -- [the result; the token; true; the lender's part; the other elements; _6; …; _5; …; _4's end; _3; …; _2; …; _1; …; _0; …]
