@@ -230,7 +230,7 @@ module _ (row : RowData) (t : Tally) (above : List Row) {homes boxes tuples root
     rows = length-append above (row_data row ∷ []) ∙ ap (λ (n : ℕ). n + 1) Y.rows;
   }
     where
-      turned : (b : Bool) → eqb row.group group_q ≡ b → same (numbers_of (above ++ (row_data row ∷ []))) (below (cond b (t.lines + 1) t.lines)) ≡ cond b (t.turn & eqb row.own_val t.lines) t.turn
+      turned : (b : Bool) → eqb row.group group_q ≡ b → same (numbers_of (above ++ (row_data row ∷ []))) (below (cond b (t.lines + 1) t.lines)) ≡ cond b (t.turn & eqb row.own t.lines) t.turn
       turned true q =
           turn_own above (row_data row) t.lines (e ∙ eqb_eq q)
           ∙ ap₂ (λ (x : Bool) (y : ℕ). x & eqb y t.lines) Y.turn (own_row row G (eqb_eq q))

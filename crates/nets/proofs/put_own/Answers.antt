@@ -1,0 +1,18 @@
+use Prim.Native.Nat.{◌-◌}
+use mathlib.Core.Path.{◌≡◌}
+use native.Mathlib.Omega.{arith}
+use Rattle.klaim.specs.Limits.{box_limit}
+use Rattle.nets.proofs.Defaults.{owned_none, owned_more, owned_all}
+use Rattle.nets.proofs.put_own.Goals as goal
+
+pub loop-k-init : goal.loop-k-init
+loop-k-init c = (omega arith, c.requires, owned_none _)
+
+pub loop-k-preserved : goal.loop-k-preserved
+loop-k-preserved c = let R = c.loop-k.invariant in (omega arith, R.1, owned_more R.2 (omega (arith, R.1)) c.own_rights.ensures)
+
+pub returns : goal.returns
+returns c =
+    let R = c.loop-k.invariant in
+    let e : c.loop-k.k ≡ box_limit = omega arith in
+    owned_all (rw e at R.2) R.1
