@@ -1,0 +1,17 @@
+use native.Mathlib.Omega.{arith}
+use Rattle.writer.proofs.Wrote.{wrote_long, wrote_as}
+use Rattle.rows.proofs.Rows.{refused_list}
+use Rattle.listing.proofs.Reading.{refused_fits, fits_in}
+use Rattle.listing.proofs.put_refusal.Goals as goal
+
+pub overflow_cast-row : goal.overflow_cast-row
+overflow_cast-row c = omega (arith, c.requires.0)
+
+pub put_refused-requires : goal.put_refused-requires
+put_refused-requires c = omega (arith, refused_fits c.args.number c.args.row (omega (arith, c.ranges)) c.requires.0, c.requires.1)
+
+pub shape_of-out : goal.shape_of-out
+shape_of-out c = wrote_long c.put_refused.ensures
+
+pub returns : goal.returns
+returns c = record { wrote = wrote_as (refused_list _ _) c.put_refused.ensures; upper_bound = fits_in c.put_refused.ensures (refused_fits _ _ (omega (arith, c.ranges)) c.requires.0) }
