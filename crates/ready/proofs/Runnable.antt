@@ -40,7 +40,7 @@ module _ {A : Type 0} where
       first q
   place_in (y ∷ xs) (suc k) e = later (place_in xs k e)
 
-  in_place : {xs : List A} {x : A} → Elem x xs → (k : ℕ) × (get_elem? xs k ≡ some x)
+  in_place : {x : A} {xs : List A} → Elem x xs → (k : ℕ) × (get_elem? xs k ≡ some x)
   in_place (first e) = (0, ap (λ (y : A). some y) (sym e))
   in_place (later i) = let r = in_place i in (suc r.0, r.1)
 
