@@ -8,7 +8,7 @@ ghost use Rattle.klaim.specs.Process.{tree};
 ghost use Rattle.klaim.specs.Net.{Net, Estimate};
 ghost use Rattle.tables.specs.View.{lines_view, rows_view, InForm};
 ghost use Rattle.rules.specs.Masks.{Sized};
-ghost use Rattle.door.specs.Parts.{sound as soundOf};
+ghost use Rattle.door.specs.Parts.{sound as sound_of};
 ghost use Rattle.state.specs.Fits.{Fits};
 ghost use Rattle.brings.specs.Brought.{Brought};
 
@@ -38,7 +38,7 @@ fn sound_sites<'a>(
     q: u8,
 ) -> u32
     requires { InForm n lines.now q × (n ≤ 256) × (length lines.now ≡ 2560) × Sized nstand stand.now × (size ≤ 32) }
-    ensures { (N : Net) (E : Estimate) → N.boxes ≡ boxes.now → E.binds ≡ binds.now → E.hold ≡ hold.now → E.stand ≡ rows_view nstand stand.now → (l : ℕ) → l < size → mem l result ≡ soundOf N E l (tree (lines_view n lines.now) q) }
+    ensures { (N : Net) (E : Estimate) → N.boxes ≡ boxes.now → E.binds ≡ binds.now → E.hold ≡ hold.now → E.stand ≡ rows_view nstand stand.now → (l : ℕ) → l < size → mem l result ≡ sound_of N E l (tree (lines_view n lines.now) q) }
 {
     let mut index = [0u64; 768];
     matching::fill(&mut index, stand, nstand);

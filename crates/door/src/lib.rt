@@ -3,19 +3,19 @@
 
 ghost use Rattle.std.specs.Prelude.{◌≡◌, ◌<◌, ◌≤◌, length, get_or};
 ghost use Rattle.sets.specs.Lists.{all, below};
-ghost use Rattle.sets.specs.Bits.{within as isWithin};
+ghost use Rattle.sets.specs.Bits.{within as is_within};
 ghost use Rattle.klaim.specs.Process.{tree};
 ghost use Rattle.klaim.specs.Net.{Net, Estimate, box_at};
 ghost use Rattle.tables.specs.View.{lines_view, InForm};
 ghost use Rattle.rules.specs.Masks.{IndexOf};
-ghost use Rattle.door.specs.Parts.{sound as soundOf, uses_fit};
+ghost use Rattle.door.specs.Parts.{sound as sound_of, uses_fit};
 
 use flow::UseMap;
 
 // Whether a use map lies within sandbox d evaluated at site l.
 fn uses_within(m: UseMap, boxes: &[u8; 1056], d: u8, l: u8) -> bool
     requires { d < 32 }
-    ensures { (N : Net) → N.boxes ≡ boxes.now → result ≡ all (λ t. isWithin (get_or m.rights t 0) (box_at N d l t)) (below 32) }
+    ensures { (N : Net) → N.boxes ≡ boxes.now → result ≡ all (λ t. is_within (get_or m.rights t 0) (box_at N d l t)) (below 32) }
 {
     let rights = m.rights;
     let mut ok = true;
@@ -41,7 +41,7 @@ pub fn sound(
     q: u8,
 ) -> bool
     requires { InForm n lines.now q × (n ≤ 256) × (length lines.now ≡ 2560) × (length index.now ≡ 768) × (l < 32) }
-    ensures { (N : Net) (E : Estimate) → N.boxes ≡ boxes.now → E.binds ≡ binds.now → E.hold ≡ hold.now → IndexOf E index.now → result ≡ soundOf N E l (tree (lines_view n lines.now) q) }
+    ensures { (N : Net) (E : Estimate) → N.boxes ≡ boxes.now → E.binds ≡ binds.now → E.hold ≡ hold.now → IndexOf E index.now → result ≡ sound_of N E l (tree (lines_view n lines.now) q) }
 {
     let places = sets::single(l);
     let first = broken::first_broken(lines, n, boxes, binds, hold, index, places, q);

@@ -6,7 +6,7 @@ ghost use Rattle.sets.specs.Lists.{table};
 ghost use Rattle.sets.specs.Bits.{accept_bit, mem, sites, join, grant, joins};
 ghost use Rattle.klaim.specs.Process.{tree};
 ghost use Rattle.klaim.specs.Net.{Net, Estimate, box, box_at};
-ghost use Rattle.klaim.specs.Analysis.{reach as reachOf};
+ghost use Rattle.klaim.specs.Analysis.{reach as reach_of};
 ghost use Rattle.klaim.specs.Report.{sure, uses};
 ghost use Rattle.tables.specs.View.{lines_view, LowLoc, InForm};
 ghost use Rattle.flow.specs.Part.{part_of};
@@ -17,7 +17,7 @@ use tables::{Action, BOX, OWN};
 // The reach of a target or field, `places` being the place set: the sites that it may stand for.
 pub fn reach(x: Loc, places: u32, binds: &[u32; 32]) -> u32
     requires { LowLoc x }
-    ensures { (E : Estimate) → E.binds ≡ binds.now → result ≡ reachOf E places x }
+    ensures { (E : Estimate) → E.binds ≡ binds.now → result ≡ reach_of E places x }
 {
     match x {
         Loc::At(s) => sets::single(s.0),
@@ -153,7 +153,7 @@ impl UseMap {
     // With the right on each site of the target's reach.
     fn acting(self, right: u8, target: Loc, places: u32, binds: &[u32; 32]) -> UseMap
         requires { LowLoc target }
-        ensures { (E : Estimate) → E.binds ≡ binds.now → result.rights ≡ table 32 (λ s. join (get_or self.rights s 0) (grant (mem s (reachOf E places target)) right)) }
+        ensures { (E : Estimate) → E.binds ≡ binds.now → result.rights ≡ table 32 (λ s. join (get_or self.rights s 0) (grant (mem s (reach_of E places target)) right)) }
     {
         let set = reach(target, places, binds);
         self.join(UseMap::over(right, set))

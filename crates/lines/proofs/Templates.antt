@@ -13,7 +13,7 @@ use lib.Seq.{get_or-drop}
 use borrow.Author.Tests.{leb-true, le-leb, lt-leb}
 use Rattle.sets.specs.Lists.{◌&◌, all}
 use Rattle.sets.proofs.Lists.{and_true}
-use Rattle.klaim.specs.Rows.{at, given, ◌>>=◌, each, fields}
+use Rattle.klaim.specs.Rows.{given, ◌>>=◌, each, fields}
 use Rattle.text.specs.declared.Name.{Name}
 use Rattle.text.specs.Fields.{up_to, Named}
 use Rattle.lines.specs.declared.Four.{Four}

@@ -6,7 +6,7 @@ ghost use Rattle.klaim.specs.Limits.{site_limit, report_size};
 ghost use Rattle.sets.specs.Lists.{table};
 ghost use Rattle.klaim.specs.Analysis.{accepted};
 ghost use Rattle.klaim.specs.Reader.{refused};
-ghost use Rattle.klaim.specs.Listing.{numeral, row as wordRow, rows_v, home_count, used_count, list_verdict, list_read, listing as listingOf};
+ghost use Rattle.klaim.specs.Listing.{numeral, row as word_row, rows_v, home_count, used_count, list_verdict, list_read, listing as listing_of};
 ghost use Rattle.worlds.specs.World.{world_view, world_answer};
 ghost use Rattle.checker.specs.Check.{WellFormed};
 ghost use Rattle.writer.specs.Wrote.{Wrote};
@@ -146,7 +146,7 @@ fn put_refusal(out: &mut [u8], number: u8, row: usize) -> usize
 // The row of a broken rule at a T row or a Q line.
 fn put_break(out: &mut [u8], kind: u8, number: u16) -> usize
     requires { 17006 ≤ length out.old }
-    ensures wrote { Wrote out.old out.new 0 (wordRow "broken" ((kind ∷ []) ∷ numeral number ∷ [])) result }
+    ensures wrote { Wrote out.old out.new 0 (word_row "broken" ((kind ∷ []) ∷ numeral number ∷ [])) result }
     ensures upper_bound { result ≤ 17006 }
 {
     rows::put_broken(out, 0, kind, number as u32)
@@ -173,7 +173,7 @@ fn list_read(w: WorldRead, out: &mut [u8]) -> usize
 // The March listing: from the bytes of the input, a net, a row `.` and an estimate, to the bytes of the listing, which stand from
 // the first byte of the output on. Answers how many they are; 17,006 bytes hold every listing.
 pub fn list(input: &[u8], output: &mut [u8; 17006]) -> usize
-    ensures wrote { Wrote output.old output.new 0 (listingOf input.now) result }
+    ensures wrote { Wrote output.old output.new 0 (listing_of input.now) result }
     ensures upper_bound { result ≤ 17006 }
 {
     if INPUT < input.len() {

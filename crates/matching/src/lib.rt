@@ -5,7 +5,7 @@ ghost use Rattle.std.specs.Prelude.{◌≡◌, true, not, List, map, ℕ, ◌<�
 ghost use Rattle.std.specs.Int.Bits.{bit_or};
 ghost use Rattle.sets.specs.Lists.{◌&◌, either, imp, all, any, keep, same, below, fits, product};
 ghost use Rattle.sets.specs.Bits.{mem, sites};
-ghost use Rattle.klaim.specs.Analysis.{choices as allChoices};
+ghost use Rattle.klaim.specs.Analysis.{choices as all_choices};
 ghost use Rattle.klaim.specs.Invariant.{all_below, distinct};
 ghost use Rattle.tables.specs.View.{row_at, rows_view};
 ghost use Rattle.matching.specs.Index.{in_column, words, in_rows, in_index, Indexed, Entered, Low, Long};
@@ -274,7 +274,7 @@ pub fn every_bound(index: &[u64; 768], want: [u32; 5], allow: [u32; 5], m: usize
 // The rows are distinct, so it is enough to count those within the sets.
 pub fn every_choice(index: &[u64; 768], reaches: [u32; 5], m: usize) -> bool
     requires { (m ≤ 5) × (length index.now ≡ 768) }
-    ensures { (n : ℕ) (bs : List ℕ) → Indexed n bs index.now → Low n bs → distinct (rows_view n bs) ≡ true → result ≡ allChoices (map sites (take m reaches)) (λ t. any (same t) (rows_view n bs)) }
+    ensures { (n : ℕ) (bs : List ℕ) → Indexed n bs index.now → Low n bs → distinct (rows_view n bs) ≡ true → result ≡ all_choices (map sites (take m reaches)) (λ t. any (same t) (rows_view n bs)) }
 {
     let need = choices(reaches, m);
     if MANY <= need {

@@ -6,9 +6,9 @@ ghost use Rattle.std.proofs.Math.ListN.{get_elem?};
 ghost use Rattle.sets.specs.Lists.{among, splice};
 ghost use Rattle.klaim.specs.Process as Process;
 ghost use Rattle.klaim.specs.Process.{line_at, tree};
-ghost use Rattle.klaim.specs.Report.{door as doorOf};
+ghost use Rattle.klaim.specs.Report.{door as door_of};
 ghost use Rattle.klaim.specs.State as Spec;
-ghost use Rattle.klaim.specs.Engine.{plan as plan_of, stop as stopped, quiet, act, after, get_plan, accept_plan, value, bind_all, to as toLine};
+ghost use Rattle.klaim.specs.Engine.{plan as plan_of, stop as stopped, quiet, act, after, get_plan, accept_plan, value, bind_all, to as to_line};
 ghost use Rattle.tables.specs.View.{LowLoc, loc_of, slot_of, field_bytes, row_at, rows_view};
 ghost use Rattle.threads.specs.View.{thread_view, rebound};
 ghost use Rattle.tuples.specs.Rows.{Padded};
@@ -156,7 +156,7 @@ fn plan_taken(
     change: u8,
 ) -> Move
     requires { (m < 256) × (count ≤ 4) × (length lines.now ≡ 2560) × (length tuples.now ≡ 1536) × (length (row_at tuples.now m) ≡ suc count) × LowLoc target × (eqb change 1 ≡ false) }
-    ensures result_value { (st : Spec.State) (k : ℕ) → plan_view st k m result ≡ act (value (thread_view th).site (thread_view th).bindings target) right (after st k (toLine (rebound (thread_view th) (bind_all (Slot.Value target ∷ map slot_of (take count (field_bytes lines.now th.line))) (row_at tuples.now m) (thread_view th).bindings)) a) [] (cond (eqb change 2) (splice m [] st.tuples) st.tuples)) }
+    ensures result_value { (st : Spec.State) (k : ℕ) → plan_view st k m result ≡ act (value (thread_view th).site (thread_view th).bindings target) right (after st k (to_line (rebound (thread_view th) (bind_all (Slot.Value target ∷ map slot_of (take count (field_bytes lines.now th.line))) (row_at tuples.now m) (thread_view th).bindings)) a) [] (cond (eqb change 2) (splice m [] st.tuples) st.tuples)) }
     ensures right_value { (result.right ≡ right) × Padded result.row }
 {
     let q = th.line;
@@ -279,7 +279,7 @@ pub fn admitted(
     d: u8,
 ) -> bool
     requires { Admits lines.now n arrivals.now narrivals sound.now × (i < narrivals) × (l < 32) × (d < 32) }
-    ensures { (st : Spec.State) → Guests st l lines.now n boxes.now binds.now arrivals.now narrivals sound.now → result ≡ doorOf st.net st.estimate d l (tree st.lines (get_or arrivals.now i 0)) }
+    ensures { (st : Spec.State) → Guests st l lines.now n boxes.now binds.now arrivals.now narrivals sound.now → result ≡ door_of st.net st.estimate d l (tree st.lines (get_or arrivals.now i 0)) }
 {
     let q = arrivals[i];
     if sets::has_site(sound[i], l) {

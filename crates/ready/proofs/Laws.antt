@@ -12,7 +12,7 @@ use borrow.Author.Tests.{le-ltb}
 use lib.Dec.{ltb}
 use lib.ListN.{length, get_or, get_elem?, take}
 use lib.Seq.{length-take-le, get_or-take}
-use Rattle.sets.specs.Lists.{first, ◌&◌, either, any, keep, below, among, table}
+use Rattle.sets.specs.Lists.{◌&◌, either, any, keep, below, among, table}
 use Rattle.sets.proofs.Lists.{any_i, All-get, lt-ltb, in_get_or}
 use Rattle.sets.proofs.Tables.{get_or_table, length_table}
 use Rattle.klaim.specs.Process.{Line, line_at, tree}

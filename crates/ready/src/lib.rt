@@ -4,9 +4,9 @@
 ghost use Rattle.std.specs.Prelude.{◌≡◌, map, ◌<◌, ◌≤◌, length, get_or, take};
 ghost use Rattle.sets.specs.Lists.{◌&◌, any};
 ghost use Rattle.klaim.specs.Process.{line_at, tree};
-ghost use Rattle.klaim.specs.Report.{door as doorOf};
+ghost use Rattle.klaim.specs.Report.{door as door_of};
 ghost use Rattle.klaim.specs.State as Spec;
-ghost use Rattle.klaim.specs.Engine.{agrees as agreesOf, door_alone, ready as readyOf};
+ghost use Rattle.klaim.specs.Engine.{agrees as agrees_of, door_alone, ready as ready_of};
 ghost use Rattle.tables.specs.View.{lines_view, rows_view, slot_of, field_bytes, LowLoc};
 ghost use Rattle.threads.specs.View.{thread_view};
 ghost use Rattle.plan.specs.Move.{Tables, Plannable, Guests, Admits};
@@ -14,7 +14,7 @@ ghost use Rattle.state.specs.declared.State.{State};
 ghost use Rattle.state.specs.View.{state_view};
 ghost use Rattle.state.specs.Fits.{Fits};
 ghost use Rattle.state.specs.Lent.{Lent, Shown};
-ghost use Rattle.ready.specs.Runs.{standing, room as roomOf, welcome, runs as runsOf};
+ghost use Rattle.ready.specs.Runs.{standing, room as room_of, welcome, runs as runs_of};
 ghost use Rattle.ready.specs.View.{door_view, ready_view};
 ghost use Rattle.ready.specs.Scan.{Testable, AllTestable, Tested, Found, place_of};
 
@@ -51,7 +51,7 @@ fn stands(lines: &[u8; 2560], n: usize, q: u8) -> usize
 // Whether the thread list stays within its limit where one of `count` threads comes to line a of n, and one is appended on line b.
 fn has_room(lines: &[u8; 2560], n: usize, count: usize, a: u8, b: u8) -> bool
     requires { count ≤ 64 }
-    ensures { result ≡ roomOf count (lines_view n lines.now) a b }
+    ensures { result ≡ room_of count (lines_view n lines.now) a b }
 {
     let stay = stands(lines, n, a);
     let come = stands(lines, n, b);
@@ -68,7 +68,7 @@ fn some_agrees(
     count: u8,
 ) -> bool
     requires { (n ≤ 256) × (count ≤ 4) × (length lines.now ≡ 2560) × (length tuples.now ≡ 1536) × LowLoc target }
-    ensures { result ≡ any (agreesOf (thread_view th) target (map slot_of (take count (field_bytes lines.now th.line)))) (rows_view n tuples.now) }
+    ensures { result ≡ any (agrees_of (thread_view th) target (map slot_of (take count (field_bytes lines.now th.line)))) (rows_view n tuples.now) }
 {
     let q = th.line;
     let mut m: usize = 0;
@@ -98,7 +98,7 @@ fn welcomes(
     i: usize,
 ) -> bool
     requires { Admits lines.now n arrivals.now narrivals sound.now × (l < 32) × (d < 32) × (count ≤ 64) × (i < narrivals) }
-    ensures { (st : Spec.State) → Guests st l lines.now n boxes.now binds.now arrivals.now narrivals sound.now → result ≡ (doorOf st.net st.estimate d l (tree st.lines (get_or arrivals.now i 0)) & roomOf count st.lines a (get_or arrivals.now i 0)) }
+    ensures { (st : Spec.State) → Guests st l lines.now n boxes.now binds.now arrivals.now narrivals sound.now → result ≡ (door_of st.net st.estimate d l (tree st.lines (get_or arrivals.now i 0)) & room_of count st.lines a (get_or arrivals.now i 0)) }
 {
     let q = arrivals[i];
     if has_room(lines, n, count, a, q) {
@@ -153,7 +153,7 @@ fn can_step<'a>(
     th: Thread,
 ) -> bool
     requires { Plannable lines.now n arrivals.now narrivals sound.now tuples.now ntuples th × (count ≤ 64) }
-    ensures { (st : Spec.State) → Tables st th.site.0 lines.now n boxes.now binds.now arrivals.now narrivals sound.now tuples.now ntuples → length st.threads ≡ count → result ≡ runsOf st (thread_view th) (line_at st.lines th.line) }
+    ensures { (st : Spec.State) → Tables st th.site.0 lines.now n boxes.now binds.now arrivals.now narrivals sound.now tuples.now ntuples → length st.threads ≡ count → result ≡ runs_of st (thread_view th) (line_at st.lines th.line) }
 {
     let q = th.line;
     match tables::action_at(lines, q) {
@@ -263,7 +263,7 @@ fn place_of(k: usize, n: usize) -> ReadyAnswer
 // The lowest place of a thread where some tuple and some arrival make a bare step perform.
 pub fn ready(state: State) -> ReadyAnswer
     requires { Fits state }
-    ensures { ready_view result ≡ readyOf (state_view state) }
+    ensures { ready_view result ≡ ready_of (state_view state) }
 {
     let lines = state.lines;
     let boxes = state.net.boxes;

@@ -3,7 +3,6 @@
 use mathlib.Core.Path.{◌≡◌, refl, sym, ap, subst, ◌∙◌}
 use mathlib.Core.Bool.{true}
 use mathlib.Core.List.{List, [], ◌∷◌}
-use mathlib.Core.Option.{some}
 use Prim.Native.Nat.{ℕ, ◌+◌, ◌*◌, ◌<◌}
 use lib.Dec.{eqb}
 use Rattle.sets.specs.Lists.{◌⧺◌}
@@ -16,7 +15,7 @@ use Rattle.text.specs.Fields.{unsaid, sites_to}
 use Rattle.forms.specs.declared.RowData.{RowData}
 use Rattle.forms.specs.Forms.{row_data, row_good, pair_group, tuple_group}
 use Rattle.forms.proofs.RowForms.{row_as}
-use Rattle.judge.proofs.Limits.{good, group_is}
+use Rattle.judge.proofs.Limits.{group_is}
 use Rattle.stores.proofs.Shapes as Shapes
 use Rattle.repeats.specs.Kept.{Kept}
 

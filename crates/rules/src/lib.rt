@@ -3,12 +3,12 @@
 
 ghost use Rattle.std.specs.Prelude.{◌≡◌, ◌∷◌, map, ℕ, ◌<◌, ◌≤◌, ◌+◌, length, take, get_or};
 ghost use Rattle.sets.specs.Lists.{◌&◌, imp, all, below};
-ghost use Rattle.sets.specs.Bits.{mem, within as isWithin};
+ghost use Rattle.sets.specs.Bits.{mem, within as is_within};
 ghost use Rattle.klaim.specs.declared.Loc.{Loc as LocT};
 ghost use Rattle.klaim.specs.Net.{Net, Estimate, holds};
-ghost use Rattle.klaim.specs.Analysis.{reach as reachOf, out_rule, get_rule, eval_rule};
+ghost use Rattle.klaim.specs.Analysis.{reach as reach_of, out_rule, get_rule, eval_rule};
 ghost use Rattle.tables.specs.View.{field_bytes, loc_of, slot_of, LowLoc, LowSlot};
-ghost use Rattle.rules.specs.Masks.{wanted as wantedOf, allowed as allowedOf, field_set, IndexOf};
+ghost use Rattle.rules.specs.Masks.{wanted as wanted_of, allowed as allowed_of, field_set, IndexOf};
 
 use flow::UseMap;
 use klaim::{Loc, Slot};
@@ -17,7 +17,7 @@ use matching::ANY;
 // What a field of a template agrees with: a value's reach, `!u` and `_` any site.
 fn wanted(slot: Slot, places: u32, binds: &[u32; 32]) -> u32
     requires { LowSlot slot }
-    ensures { (E : Estimate) → E.binds ≡ binds.now → result ≡ wantedOf E places slot }
+    ensures { (E : Estimate) → E.binds ≡ binds.now → result ≡ wanted_of E places slot }
 {
     match slot {
         Slot::Value(x) => flow::reach(x, places, binds),
@@ -29,7 +29,7 @@ fn wanted(slot: Slot, places: u32, binds: &[u32; 32]) -> u32
 // What the row's field may be: for `!u` what u may become, else any site.
 fn allowed(slot: Slot, binds: &[u32; 32]) -> u32
     requires { LowSlot slot }
-    ensures { (E : Estimate) → E.binds ≡ binds.now → result ≡ allowedOf E slot }
+    ensures { (E : Estimate) → E.binds ≡ binds.now → result ≡ allowed_of E slot }
 {
     match slot {
         Slot::Value(_) => ANY,
@@ -124,7 +124,7 @@ pub fn get_rule(
 }
 
 pub fn within(a: u8, b: u8) -> bool
-    ensures { result ≡ isWithin a b }
+    ensures { result ≡ is_within a b }
 {
     a & b == a
 }
@@ -132,7 +132,7 @@ pub fn within(a: u8, b: u8) -> bool
 // Whether the E rights of site l hold what is needed towards every site.
 fn row_holds(hold: &[u8; 1024], l: u8, need: [u8; 32]) -> bool
     requires { l < 32 }
-    ensures { (E : Estimate) → E.hold ≡ hold.now → result ≡ all (λ t. isWithin (get_or need t 0) (holds E l t)) (below 32) }
+    ensures { (E : Estimate) → E.hold ≡ hold.now → result ≡ all (λ t. is_within (get_or need t 0) (holds E l t)) (below 32) }
 {
     let at = tables::SITES * (l as usize);
     let mut ok = true;
@@ -147,7 +147,7 @@ fn row_holds(hold: &[u8; 1024], l: u8, need: [u8; 32]) -> bool
 // Whether site l is not in the set, or its E rights hold what is needed.
 fn held(hold: &[u8; 1024], set: u32, l: u8, need: [u8; 32]) -> bool
     requires { l < 32 }
-    ensures { (E : Estimate) → E.hold ≡ hold.now → result ≡ imp (mem l set) (all (λ t. isWithin (get_or need t 0) (holds E l t)) (below 32)) }
+    ensures { (E : Estimate) → E.hold ≡ hold.now → result ≡ imp (mem l set) (all (λ t. is_within (get_or need t 0) (holds E l t)) (below 32)) }
 {
     if sets::has_site(set, l) {
         return row_holds(hold, l, need);
@@ -158,7 +158,7 @@ fn held(hold: &[u8; 1024], set: u32, l: u8, need: [u8; 32]) -> bool
 // The rule of an eval line whose target has reach `set`, under sandbox k.
 pub fn eval_rule(boxes: &[u8; 1056], hold: &[u8; 1024], set: u32, k: u8) -> bool
     requires { k < 32 }
-    ensures { (N : Net) (E : Estimate) (P : ℕ) (g : LocT) → N.boxes ≡ boxes.now → E.hold ≡ hold.now → set ≡ reachOf E P g → result ≡ eval_rule N E P g k }
+    ensures { (N : Net) (E : Estimate) (P : ℕ) (g : LocT) → N.boxes ≡ boxes.now → E.hold ≡ hold.now → set ≡ reach_of E P g → result ≡ eval_rule N E P g k }
 {
     let given = UseMap::of_box(boxes, k, set);
     let need = given.rights;

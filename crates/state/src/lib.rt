@@ -2,8 +2,8 @@
 #![tactic(auto)]
 
 ghost use Rattle.std.specs.Prelude.{◌≡◌, ◌<◌, cond};
-ghost use Rattle.klaim.specs.Reader.{refused as refusedOf, gives};
-ghost use Rattle.klaim.specs.Engine.{silent as silentOf, performed};
+ghost use Rattle.klaim.specs.Reader.{refused as refused_of, gives};
+ghost use Rattle.klaim.specs.Engine.{silent as silent_of, performed};
 ghost use Rattle.state.specs.View.{answer_view};
 
 use tables::Estimate;
@@ -71,7 +71,7 @@ pub struct State {
 // A refusal, with its row. What stands behind these is of no account.
 pub fn refused(number: u8, row: usize) -> Told
     requires { 0 < number }
-    ensures { answer_view result ≡ refusedOf number row }
+    ensures { answer_view result ≡ refused_of number row }
 {
     Told {
         number,
@@ -85,7 +85,7 @@ pub fn refused(number: u8, row: usize) -> Told
 
 // A step that was not refused: silent, or a right used on a target.
 pub fn stepped(silent: bool, site: u8, target: u8, right: u8) -> Told
-    ensures { answer_view result ≡ gives (cond silent silentOf (performed site target right)) }
+    ensures { answer_view result ≡ gives (cond silent silent_of (performed site target right)) }
 {
     let mut event: u8 = PERFORMED;
     if silent {

@@ -5,7 +5,7 @@ ghost use Rattle.std.specs.Prelude.{◌≡◌, false, cond, not, [], ◌∷◌, 
 ghost use Rattle.sets.specs.Lists.{◌&◌, either, splice};
 ghost use Rattle.klaim.specs.Net.{Net};
 ghost use Rattle.klaim.specs.State as Spec;
-ghost use Rattle.klaim.specs.Engine.{permits as permitsOf};
+ghost use Rattle.klaim.specs.Engine.{permits as permits_of};
 ghost use Rattle.tables.specs.View.{lines_view, rows_view, row_at};
 ghost use Rattle.threads.specs.View.{thread_view};
 ghost use Rattle.state.specs.declared.State.{State};
@@ -110,7 +110,7 @@ fn measure(lines: &[u8; 2560], nlines: usize, nthreads: usize, ntuples: usize, v
 // Whether the right on site t, any number, is in the thread's policy and in the home policy of its site.
 fn allowed(homes: &[u8; 1024], th: Thread, t: u8, right: u8) -> bool
     requires { (th.site.0 < 32) × (0 < right) }
-    ensures { (N : Net) → N.homes ≡ homes.now → result ≡ permitsOf N (thread_view th) t right }
+    ensures { (N : Net) → N.homes ≡ homes.now → result ≡ permits_of N (thread_view th) t right }
 {
     if t < (tables::SITES as u8) {
         return threads::permits(homes, th, t, right);

@@ -2,9 +2,9 @@
 #![tactic(auto)]
 
 ghost use Rattle.std.specs.Prelude.{◌≡◌, [], ◌∷◌, ◌+◌, ◌-◌, ◌<◌, ◌≤◌, length, set, take, drop, eqb};
-ghost use Rattle.sets.specs.Lists.{either, same as sameBytes};
+ghost use Rattle.sets.specs.Lists.{either, same as same_bytes};
 ghost use Rattle.sets.specs.Bits.{every_right};
-ghost use Rattle.klaim.specs.Rows.{split, comma, newline, at, number as numberField, lettered as letteredField, site_field, var_field, is_self, is_wildcard, bind_field, rights_field, box_rights_field};
+ghost use Rattle.klaim.specs.Rows.{split, comma, newline, at, number as number_field, lettered as lettered_field, site_field, var_field, is_self, is_wildcard, bind_field, rights_field, box_rights_field};
 ghost use Rattle.text.specs.Pieces.{end_of, edge_limit, Cut, Mark, comma_at};
 ghost use Rattle.text.specs.Fields.{number_of, shape_of, value_of, joined_of, digits_field, rights_of, box_rights_of, hit_at, binder_of, pick_name, Named, letter_of, word_of};
 
@@ -118,7 +118,7 @@ pub fn field<'a, 'b>(row: &'a [u8], edges: &'b [usize; EDGES], n: usize, k: usiz
 
 // Whether two slices hold the same bytes.
 pub fn same(a: &[u8], b: &[u8]) -> bool
-    ensures { result ≡ sameBytes a.now b.now }
+    ensures { result ≡ same_bytes a.now b.now }
 {
     if a.len() != b.len() {
         return false;
@@ -198,7 +198,7 @@ fn digits(f: &[u8]) -> u16
 }
 
 pub fn number(f: &[u8]) -> u16
-    ensures { number_of result ≡ numberField f.now }
+    ensures { number_of result ≡ number_field f.now }
 {
     if shaped(f) {
         return digits(f);
@@ -252,7 +252,7 @@ pub fn decimal(f: &[u8]) -> Spelled {
 
 // A letter and a number.
 pub fn lettered(f: &[u8], letter: u8) -> u16
-    ensures { number_of result ≡ letteredField letter f.now }
+    ensures { number_of result ≡ lettered_field letter f.now }
 {
     if 0 < f.len() {
         if f[0] == letter {

@@ -7,7 +7,7 @@ ghost use Rattle.std.proofs.Math.Option.{none, some};
 ghost use Rattle.sets.specs.Bits.{has};
 ghost use Rattle.klaim.specs.Net.{Net};
 ghost use Rattle.klaim.specs.State.{home_policy, box_policy};
-ghost use Rattle.klaim.specs.Engine.{value as value_of, to as toLine, under as underOf, permits as permitsOf};
+ghost use Rattle.klaim.specs.Engine.{value as value_of, to as to_line, under as under_of, permits as permits_of};
 ghost use Rattle.tables.specs.View.{LowLoc};
 ghost use Rattle.threads.specs.View.{bindings_view, thread_view, threads_view, rebound};
 
@@ -65,7 +65,7 @@ pub fn bind(th: Thread, u: Var, s: u8) -> Thread
 
 // The thread, come to line q.
 pub fn to(th: Thread, q: u8) -> Thread
-    ensures { thread_view result ≡ toLine (thread_view th) q }
+    ensures { thread_view result ≡ to_line (thread_view th) q }
 {
     let mut r = th;
     r.line = q;
@@ -114,7 +114,7 @@ fn box_policy(boxes: &[u8; 1056], k: u8, l: u8) -> [u8; 32]
 // A thread at site l on line b, under sandbox k evaluated there.
 pub fn under(boxes: &[u8; 1056], k: u8, l: u8, b: u8, bound: u32, bindings: [Site; 32]) -> Thread
     requires { k < 32 }
-    ensures { (N : Net) → N.boxes ≡ boxes.now → thread_view result ≡ underOf N k l b (bindings_view bound bindings) }
+    ensures { (N : Net) → N.boxes ≡ boxes.now → thread_view result ≡ under_of N k l b (bindings_view bound bindings) }
 {
     let policy = box_policy(boxes, k, l);
     Thread {
@@ -137,7 +137,7 @@ fn has_right(rights: u8, right: u8) -> bool
 // Whether the right on site t is in the thread's policy and in the home policy of its site.
 pub fn permits(homes: &[u8; 1024], th: Thread, t: u8, right: u8) -> bool
     requires { (th.site.0 < 32) × (t < 32) × (0 < right) }
-    ensures { (N : Net) → N.homes ≡ homes.now → result ≡ permitsOf N (thread_view th) t right }
+    ensures { (N : Net) → N.homes ≡ homes.now → result ≡ permits_of N (thread_view th) t right }
 {
     let to = t as usize;
     let here = th.site;

@@ -4,7 +4,7 @@
 ghost use Rattle.std.specs.Prelude.{◌≡◌, ◌∷◌, [], map, suc, ◌+◌, ◌-◌, ◌*◌, ◌<◌, ◌≤◌, eqb, length, take};
 ghost use Rattle.sets.specs.Lists.{splice};
 ghost use Rattle.klaim.specs.Analysis.{slot_match};
-ghost use Rattle.klaim.specs.Engine.{value, bind_all, agrees as agreesOf};
+ghost use Rattle.klaim.specs.Engine.{value, bind_all, agrees as agrees_of};
 ghost use Rattle.tables.specs.View.{row_at, rows_view, field_bytes, loc_of, slot_of, LowLoc, LowSlot};
 ghost use Rattle.threads.specs.View.{thread_view, rebound};
 ghost use Rattle.tuples.specs.Slots.{bind_slot};
@@ -71,7 +71,7 @@ pub fn agrees(
     th: Thread,
 ) -> bool
     requires { (m < 256) × (count ≤ 4) × (length lines.now ≡ 2560) × (length tuples.now ≡ 1536) × LowLoc target }
-    ensures { result ≡ agreesOf (thread_view th) target (map slot_of (take count (field_bytes lines.now q))) (row_at tuples.now m) }
+    ensures { result ≡ agrees_of (thread_view th) target (map slot_of (take count (field_bytes lines.now q))) (row_at tuples.now m) }
 {
     if matching::row_len(tuples, m) != (count as usize) + 1 {
         return false;

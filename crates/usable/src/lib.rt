@@ -8,7 +8,7 @@ ghost use Rattle.klaim.specs.Net.{Net, Estimate};
 ghost use Rattle.klaim.specs.Reader.{World};
 ghost use Rattle.klaim.specs.Analysis.{place_set, process};
 ghost use Rattle.klaim.specs.Report.{uses};
-ghost use Rattle.klaim.specs.Listing.{usable as usableOf, used_count};
+ghost use Rattle.klaim.specs.Listing.{usable as usable_of, used_count};
 ghost use Rattle.tables.specs.View.{lines_view, root_at, roots_view};
 ghost use Rattle.report.specs.Given.{Rooted};
 ghost use Rattle.usable.specs.Rights.{Rights};
@@ -88,7 +88,7 @@ fn usable_at(
     s: u8,
 ) -> [u8; 32]
     requires { Rooted n lines.now m roots.now × (s < 32) }
-    ensures { (w : World) → Rights w roots.now m lines.now n boxes.now binds.now hold.now → result ≡ table 32 (usableOf w s) }
+    ensures { (w : World) → Rights w roots.now m lines.now n boxes.now binds.now hold.now → result ≡ table 32 (usable_of w s) }
 {
     let uses = site_uses(roots, m, lines, n, boxes, binds, s);
     with_holds(uses, hold, s)

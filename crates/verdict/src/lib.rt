@@ -4,7 +4,7 @@
 ghost use Rattle.std.specs.Prelude.{◌≡◌, true, ◌≤◌, length};
 ghost use Rattle.sets.specs.Lists.{all, concat};
 ghost use Rattle.klaim.specs.Net.{Net, Estimate};
-ghost use Rattle.klaim.specs.Analysis.{stands, first_not, broken as brokenOf, place_set, process, verdict as verdict_of, verdict_of as verdictBy};
+ghost use Rattle.klaim.specs.Analysis.{stands, first_not, broken as broken_of, place_set, process, verdict as verdict_of, verdict_of as verdict_by};
 ghost use Rattle.klaim.specs.Invariant.{all_below};
 ghost use Rattle.tables.specs.View.{rows_view, roots_view, lines_view};
 ghost use Rattle.rules.specs.Masks.{IndexOf};
@@ -47,7 +47,7 @@ fn first_line(
     index: &[u64; 768],
 ) -> u16
     requires { Rooted nlines lines.now nroots roots.now × (length lines.now ≡ 2560) × (length index.now ≡ 768) }
-    ensures { (N : Net) (E : Estimate) → N.boxes ≡ boxes.now → N.lines ≡ lines_view nlines lines.now → E.binds ≡ binds.now → E.hold ≡ hold.now → IndexOf E index.now → result ≡ lowest (concat (λ x. brokenOf N E (place_set x.site) (process N x)) (roots_view nroots roots.now)) }
+    ensures { (N : Net) (E : Estimate) → N.boxes ≡ boxes.now → N.lines ≡ lines_view nlines lines.now → E.binds ≡ binds.now → E.hold ≡ hold.now → IndexOf E index.now → result ≡ lowest (concat (λ x. broken_of N E (place_set x.site) (process N x)) (roots_view nroots roots.now)) }
 {
     let mut r: u16 = broken::NONE;
     let mut i = nroots;
@@ -71,7 +71,7 @@ fn first_line(
 
 // The verdict by the place of the first T row and by the first line.
 fn decide(i: u16, count: u16, q: u16) -> Verdict
-    ensures { verdict_view result ≡ verdictBy (found count i) (found 256 q) }
+    ensures { verdict_view result ≡ verdict_by (found count i) (found 256 q) }
 {
     if i != count {
         return Verdict::BrokenTuple(i);

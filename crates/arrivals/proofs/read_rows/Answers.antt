@@ -1,5 +1,5 @@
 use native.Mathlib.Omega.{arith}
-use Prim.Native.Nat.{◌+◌, ◌-◌, ◌<◌}
+use Prim.Native.Nat.{◌+◌, ◌<◌}
 use lib.ListN.{length}
 use mathlib.Core.Path.{refl}
 use Rattle.arrivals.proofs.Rows.{of_group_lem, room}

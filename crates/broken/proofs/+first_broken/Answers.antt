@@ -6,8 +6,6 @@ use Rattle.tables.specs.View.{action_line}
 use Rattle.tables.proofs.Lines.{next}
 use Rattle.broken.specs.Lowest.{lowest}
 use Rattle.broken.proofs.Laws.{lowest_both, at_out, at_get, at_eval, broken_at}
-use Prim.Native.Nat.{◌-◌}
-use Prim.Native.Nat.{◌-◌}
 use Rattle.broken.proofs.+first_broken.Goals as goal
 
 pub first_broken-a-requires : goal.first_broken-a-requires

@@ -3,7 +3,6 @@ use Prim.Native.Nat.{◌+◌, ◌*◌, ◌-◌, ◌≤◌}
 use lib.ListN.{get_or}
 use Rattle.sets.specs.Lists.{sum, below}
 use Rattle.sets.specs.Bits.{size, meet}
-use Rattle.counts.proofs.Size.{counted}
 use Rattle.counts.proofs.used_count.Given as goal
 
 -- the usable rights towards the sites below t are counted, at most five each

@@ -1,8 +1,6 @@
 use mathlib.Core.Path.{◌∙◌}
-use Prim.Native.Nat.{◌-◌}
 use native.Mathlib.Omega.{arith}
 use Rattle.flow.proofs.Laws.{join_table, join_tables, below_at, uses_by, uses_at}
-use Prim.Native.Nat.{◌-◌}
 use Rattle.flow.proofs.+use_map.Goals as goal
 
 pub use_map-a-requires : goal.use_map-a-requires

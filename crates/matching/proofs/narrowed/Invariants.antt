@@ -1,6 +1,6 @@
 use mathlib.Core.Path.{◌≡◌}
 use mathlib.Core.List.{List}
-use Prim.Native.Nat.{ℕ, ◌-◌, ◌<◌, ◌≤◌}
+use Prim.Native.Nat.{ℕ, ◌<◌, ◌≤◌}
 use lib.ListN.{drop}
 use Rattle.sets.specs.Lists.{◌&◌, fits}
 use Rattle.tables.specs.View.{row_at}

@@ -1,9 +1,7 @@
 use borrow.Author.Rules.{rules}
 use mathlib.Core.Path.{ap₂, ◌∙◌}
-use mathlib.Core.Bool.{true}
 use Prim.Native.Nat.{◌<◌}
 use native.Mathlib.Omega.{arith}
-use lib.Count.{count_trailing_zeros}
 use Rattle.sets.specs.Lists.{either}
 use Rattle.matching.specs.Index.{in_column, words}
 use Rattle.matching.proofs.Index.{no_rows, turn_none, turn, turn_end, next_low, rest_less, rest_within}

@@ -1,5 +1,5 @@
 use mathlib.Core.Path.{◌≡◌, ap}
-use Prim.Native.Nat.{ℕ, ◌-◌, ◌%◌}
+use Prim.Native.Nat.{ℕ, ◌%◌}
 use native.Mathlib.Omega.{arith}
 use Rattle.sets.proofs.Tables.{filled_none, filled_more, filled_all}
 use Rattle.klaim.specs.Limits.{boxes_size}

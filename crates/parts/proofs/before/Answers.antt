@@ -1,5 +1,4 @@
 use mathlib.Core.Path.{sym, ◌∙◌}
-use Prim.Native.Nat.{◌-◌}
 use Rattle.parts.proofs.Parts.{searched_none, searched_more, searched_found, searched_all}
 use Rattle.parts.proofs.before.Goals as goal
 

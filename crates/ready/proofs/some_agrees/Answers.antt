@@ -1,8 +1,6 @@
 use mathlib.Core.Path.{◌≡◌, sym, ◌∙◌}
-use mathlib.Core.Bool.{false}
-use Prim.Native.Nat.{suc, ◌+◌, ◌-◌}
+use Prim.Native.Nat.{suc, ◌+◌}
 use native.Mathlib.Omega.{arith}
-use Rattle.klaim.specs.Engine.{agrees}
 use Rattle.ready.proofs.Laws.{row_here, row_nowhere, none_more}
 use Rattle.ready.proofs.some_agrees.Goals as goal
 

@@ -1,5 +1,4 @@
 use mathlib.Core.Path.{◌≡◌, ◌∙◌}
-use Prim.Native.Nat.{◌-◌}
 use native.Mathlib.Omega.{arith}
 use Rattle.tables.specs.View.{lines_view}
 use Rattle.renumber.proofs.Renumber.{moved_line, moved_none, moved_more}

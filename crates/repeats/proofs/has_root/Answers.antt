@@ -2,7 +2,7 @@ use Rattle.sets.proofs.Shared.{any_yes, any_no, any_end}
 use Rattle.repeats.specs.Kept.{root_same}
 use Rattle.tables.specs.View.{root_at, roots_view}
 use native.Mathlib.Omega.{arith}
-use Prim.Native.Nat.{suc, ◌-◌, ◌+◌}
+use Prim.Native.Nat.{suc, ◌+◌}
 use mathlib.Core.Path.{◌≡◌, refl, sym, ◌∙◌}
 use Rattle.repeats.proofs.has_root.Goals as goal
 

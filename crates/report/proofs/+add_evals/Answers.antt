@@ -1,11 +1,9 @@
 use mathlib.Core.Path.{refl, ap, ◌∙◌}
-use Prim.Native.Nat.{◌-◌}
 use native.Mathlib.Omega.{arith}
 use mathlib.Core.List.{[]}
 use lib.ListN.{length}
 use Rattle.sets.proofs.Tables.{length_table}
 use Rattle.report.proofs.Laws.{some_net, some_estimate, add_none, add_two, below_at, adds_by, report_at_lem, add_sends}
-use Prim.Native.Nat.{◌-◌}
 use Rattle.report.proofs.+add_evals.Goals as goal
 
 pub add_evals-requires : goal.add_evals-requires

@@ -1,9 +1,7 @@
 use mathlib.Core.Path.{◌∙◌}
-use Prim.Native.Nat.{◌-◌}
 use native.Mathlib.Omega.{arith}
 use Rattle.report.proofs.Laws.{below_at}
 use Rattle.report.proofs.Nowhere.{nothing_nil, nothing_both, nothing_next, nothing_sends, and_take, and_stop}
-use Prim.Native.Nat.{◌-◌}
 use Rattle.report.proofs.+adds_nothing.Goals as goal
 
 pub adds_nothing-requires : goal.adds_nothing-requires

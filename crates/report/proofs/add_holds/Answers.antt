@@ -1,7 +1,7 @@
 use mathlib.Core.Path.{◌≡◌, ◌∙◌}
-use Prim.Native.Nat.{◌-◌, ◌/◌, ◌%◌}
+use Prim.Native.Nat.{◌/◌, ◌%◌}
 use native.Mathlib.Omega.{arith}
-use Rattle.sets.specs.Bits.{join, less}
+use Rattle.sets.specs.Bits.{join}
 use Rattle.sets.proofs.Tables.{filled_none, filled_all}
 use Rattle.klaim.specs.Report.{hold_adds}
 use Rattle.report.proofs.Laws.{filled_join, hold_at}

@@ -1,5 +1,4 @@
 use mathlib.Core.Path.{◌≡◌}
-use Prim.Native.Nat.{◌-◌}
 use native.Mathlib.Omega.{arith}
 use Rattle.sets.proofs.Tables.{filled_none, filled_all}
 use Rattle.report.proofs.Rows.{uses_more}

@@ -1,7 +1,5 @@
 use mathlib.Core.Path.{◌≡◌, refl}
-use Prim.Native.Nat.{◌-◌}
 use native.Mathlib.Omega.{arith}
-use Rattle.sets.specs.Bits.{less}
 use Rattle.sets.proofs.Tables.{filled_none, filled_more, filled_all}
 use Rattle.report.proofs.less_sure.Goals as goal
 

@@ -1,4 +1,3 @@
-use Rattle.std.proofs.Common.{rules}
 use Rattle.sets.specs.Bits.{grant}
 use Rattle.sets.proofs.granted.Goals as goal
 

@@ -1,5 +1,4 @@
 use mathlib.Core.Path.{refl, sym, ◌∙◌}
-use Prim.Native.Nat.{◌-◌}
 use native.Mathlib.Omega.{arith}
 use Rattle.text.proofs.Slices.{looking_stop, looking_end, looking_more}
 use Rattle.text.proofs.field_end.Goals as goal

@@ -1,4 +1,3 @@
-use Prim.Native.Nat.{◌-◌}
 use native.Mathlib.Omega.{arith}
 use Rattle.klaim.specs.Rows.{newline}
 use Rattle.text.proofs.Pieces.{piece_hit, piece_miss, piece_end}

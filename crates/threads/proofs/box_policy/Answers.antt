@@ -1,8 +1,6 @@
 use mathlib.Core.Path.{◌≡◌, refl}
-use Prim.Native.Nat.{◌-◌}
 use native.Mathlib.Omega.{arith}
 use Rattle.sets.proofs.Tables.{filled_none, filled_more, filled_all}
-use Rattle.klaim.specs.Net.{box_at}
 use Rattle.klaim.specs.State.{box_policy}
 use Rattle.threads.proofs.box_policy.Goals as goal
 

@@ -1,5 +1,4 @@
 use mathlib.Core.Path.{◌≡◌, refl}
-use Prim.Native.Nat.{◌-◌}
 use native.Mathlib.Omega.{arith}
 use Rattle.sets.proofs.Tables.{filled_none, filled_more, filled_all}
 use Rattle.klaim.specs.Net.{home}

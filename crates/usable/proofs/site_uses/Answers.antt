@@ -22,8 +22,7 @@ loop-i-smaller c = omega arith
 
 pub loop-i-preserved : goal.loop-i-preserved
 loop-i-preserved c =
-    let at = c.loop-i in
-    (
+    let at = c.loop-i in (
       omega arith,
       λ N E b v l.
           c.join-r.ensures

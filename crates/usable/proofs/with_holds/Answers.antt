@@ -1,5 +1,4 @@
 use mathlib.Core.Path.{◌≡◌, refl}
-use Prim.Native.Nat.{◌-◌}
 use native.Mathlib.Omega.{arith}
 use Rattle.sets.specs.Bits.{join}
 use Rattle.sets.proofs.Tables.{filled_none, filled_more, filled_all}

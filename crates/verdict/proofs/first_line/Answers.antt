@@ -28,8 +28,7 @@ loop-i-smaller c = omega arith
 
 pub loop-i-preserved : goal.loop-i-preserved
 loop-i-preserved c =
-    let at = c.loop-i in
-    (
+    let at = c.loop-i in (
       omega arith,
       λ N E b l v h z.
           let F : Root → List ℕ = λ x. broken N E (place_set x.site) (process N x) in

@@ -2,8 +2,6 @@ use mathlib.Core.Path.{ap, ap₂, ◌∙◌}
 use native.Mathlib.Omega.{arith}
 use Rattle.whole.specs.Free.{free_fields, free_forks}
 use Rattle.whole.proofs.Free.{below_at, free_by, free_at}
-use Prim.Native.Nat.{◌-◌}
-use Prim.Native.Nat.{◌-◌}
 use Rattle.whole.proofs.+free_vars.Goals as goal
 
 pub free_vars-requires : goal.free_vars-requires

@@ -1,5 +1,5 @@
 use mathlib.Core.Path.{◌≡◌}
-use Prim.Native.Nat.{suc, ◌+◌, ◌-◌}
+use Prim.Native.Nat.{suc, ◌+◌}
 use native.Mathlib.Omega.{arith}
 use Rattle.tables.specs.View.{roots_view}
 use Rattle.whole.proofs.Counts.{none_named, roots_none, roots_more}

@@ -1,7 +1,7 @@
 use borrow.Author.Rules.{rules}
 use mathlib.Core.Path.{◌≡◌, sym, ap, ◌∙◌}
 use mathlib.Core.List.{List, []}
-use Prim.Native.Nat.{ℕ, ◌-◌, ◌%◌, ◌<◌}
+use Prim.Native.Nat.{ℕ, ◌%◌, ◌<◌}
 use native.Mathlib.Omega.{arith}
 use native.Mathlib.Nat.{add-zero}
 use lib.ListN.{length, get_or}
@@ -36,27 +36,36 @@ overflow_add-out c = let l =
 
 pub bounds-out-at : goal.bounds-out-at
 bounds-out-at c =
-    omega (arith, (let the_goes_on : c.loop-i.i < length (letters c.args.rights) = let i = c.loop-i.i in
-    letter_goes_on c.args.rights i c.loop-i-test.true (λ e. c.if-letter-eq-DOT.false ((let the_read : (i : ℕ) → get_or (get_or c.args.table.now (c.args.rights % set_count) []) i 0 ≡ get_or (padded (letters c.args.rights)) i 0 = λ i. let set = c.args.rights % set_count in
-    ap (λ (t : List (List ℕ)). get_or (get_or t set []) i 0) c.requires.0
-    ∙ ap (λ (e : List ℕ). get_or e i 0) (entry_right c.args.rights) in the_read) i ∙ e)) in the_goes_on), wrote_long c.loop-i.invariant.1)
+    omega (
+      arith,
+      (let the_goes_on : c.loop-i.i < length (letters c.args.rights) = let i = c.loop-i.i in
+          letter_goes_on c.args.rights i c.loop-i-test.true (λ e. c.if-letter-eq-DOT.false ((let the_read : (i : ℕ) → get_or (get_or c.args.table.now (c.args.rights % set_count) []) i 0 ≡ get_or (padded (letters c.args.rights)) i 0 = λ i. let set = c.args.rights % set_count in
+          ap (λ (t : List (List ℕ)). get_or (get_or t set []) i 0) c.requires.0
+          ∙ ap (λ (e : List ℕ). get_or e i 0) (entry_right c.args.rights) in the_read) i ∙ e)) in the_goes_on),
+      wrote_long c.loop-i.invariant.1,
+    )
 
 pub loop-i-preserved : goal.loop-i-preserved
 loop-i-preserved c =
     let l = c.loop-i in
-    let xs = letters c.args.rights in
-    (omega (arith, (let the_goes_on : c.loop-i.i < length (letters c.args.rights) = let i = c.loop-i.i in
-    letter_goes_on c.args.rights i c.loop-i-test.true (λ e. c.if-letter-eq-DOT.false ((let the_read : (i : ℕ) → get_or (get_or c.args.table.now (c.args.rights % set_count) []) i 0 ≡ get_or (padded (letters c.args.rights)) i 0 = λ i. let set = c.args.rights % set_count in
-    ap (λ (t : List (List ℕ)). get_or (get_or t set []) i 0) c.requires.0
-    ∙ ap (λ (e : List ℕ). get_or e i 0) (entry_right c.args.rights) in the_read) i ∙ e)) in the_goes_on)), rw ((let the_read : (i : ℕ) → get_or (get_or c.args.table.now (c.args.rights % set_count) []) i 0 ≡ get_or (padded (letters c.args.rights)) i 0 = λ i. let set = c.args.rights % set_count in
-    ap (λ (t : List (List ℕ)). get_or (get_or t set []) i 0) c.requires.0
-    ∙ ap (λ (e : List ℕ). get_or e i 0) (entry_right c.args.rights) in the_read) l.i ∙ at_letter xs l.i ((let the_goes_on : c.loop-i.i < length (letters c.args.rights) = let i = c.loop-i.i in
-    letter_goes_on c.args.rights i c.loop-i-test.true (λ e. c.if-letter-eq-DOT.false ((let the_read : (i : ℕ) → get_or (get_or c.args.table.now (c.args.rights % set_count) []) i 0 ≡ get_or (padded (letters c.args.rights)) i 0 = λ i. let set = c.args.rights % set_count in
-    ap (λ (t : List (List ℕ)). get_or (get_or t set []) i 0) c.requires.0
-    ∙ ap (λ (e : List ℕ). get_or e i 0) (entry_right c.args.rights) in the_read) i ∙ e)) in the_goes_on))) (wrote_more xs l.i ((let the_goes_on : c.loop-i.i < length (letters c.args.rights) = let i = c.loop-i.i in
-    letter_goes_on c.args.rights i c.loop-i-test.true (λ e. c.if-letter-eq-DOT.false ((let the_read : (i : ℕ) → get_or (get_or c.args.table.now (c.args.rights % set_count) []) i 0 ≡ get_or (padded (letters c.args.rights)) i 0 = λ i. let set = c.args.rights % set_count in
-    ap (λ (t : List (List ℕ)). get_or (get_or t set []) i 0) c.requires.0
-    ∙ ap (λ (e : List ℕ). get_or e i 0) (entry_right c.args.rights) in the_read) i ∙ e)) in the_goes_on)) (search rules) l.invariant.1))
+    let xs = letters c.args.rights in (
+      omega (
+        arith,
+        (let the_goes_on : c.loop-i.i < length (letters c.args.rights) = let i = c.loop-i.i in
+            letter_goes_on c.args.rights i c.loop-i-test.true (λ e. c.if-letter-eq-DOT.false ((let the_read : (i : ℕ) → get_or (get_or c.args.table.now (c.args.rights % set_count) []) i 0 ≡ get_or (padded (letters c.args.rights)) i 0 = λ i. let set = c.args.rights % set_count in
+            ap (λ (t : List (List ℕ)). get_or (get_or t set []) i 0) c.requires.0
+            ∙ ap (λ (e : List ℕ). get_or e i 0) (entry_right c.args.rights) in the_read) i ∙ e)) in the_goes_on),
+      ),
+      rw ((let the_read : (i : ℕ) → get_or (get_or c.args.table.now (c.args.rights % set_count) []) i 0 ≡ get_or (padded (letters c.args.rights)) i 0 = λ i. let set = c.args.rights % set_count in
+          ap (λ (t : List (List ℕ)). get_or (get_or t set []) i 0) c.requires.0
+          ∙ ap (λ (e : List ℕ). get_or e i 0) (entry_right c.args.rights) in the_read) l.i ∙ at_letter xs l.i ((let the_goes_on : c.loop-i.i < length (letters c.args.rights) = let i = c.loop-i.i in
+          letter_goes_on c.args.rights i c.loop-i-test.true (λ e. c.if-letter-eq-DOT.false ((let the_read : (i : ℕ) → get_or (get_or c.args.table.now (c.args.rights % set_count) []) i 0 ≡ get_or (padded (letters c.args.rights)) i 0 = λ i. let set = c.args.rights % set_count in
+          ap (λ (t : List (List ℕ)). get_or (get_or t set []) i 0) c.requires.0
+          ∙ ap (λ (e : List ℕ). get_or e i 0) (entry_right c.args.rights) in the_read) i ∙ e)) in the_goes_on))) (wrote_more xs l.i ((let the_goes_on : c.loop-i.i < length (letters c.args.rights) = let i = c.loop-i.i in
+          letter_goes_on c.args.rights i c.loop-i-test.true (λ e. c.if-letter-eq-DOT.false ((let the_read : (i : ℕ) → get_or (get_or c.args.table.now (c.args.rights % set_count) []) i 0 ≡ get_or (padded (letters c.args.rights)) i 0 = λ i. let set = c.args.rights % set_count in
+          ap (λ (t : List (List ℕ)). get_or (get_or t set []) i 0) c.requires.0
+          ∙ ap (λ (e : List ℕ). get_or e i 0) (entry_right c.args.rights) in the_read) i ∙ e)) in the_goes_on)) (search rules) l.invariant.1),
+    )
 
 pub shape_of-out : goal.shape_of-out
 shape_of-out c = wrote_long c.loop-i.invariant.1

@@ -1,5 +1,5 @@
 use mathlib.Core.Path.{◌∙◌}
-use Rattle.sets.specs.Bits.{mem, join, grant}
+use Rattle.sets.specs.Bits.{mem, grant}
 use Rattle.klaim.specs.Analysis.{reach}
 use Rattle.flow.proofs.Laws.{join_right}
 use Rattle.flow.proofs.UseMap.acting.Goals as goal
