@@ -5,18 +5,19 @@
 ghost use Rattle.std.specs.Prelude.{◌+◌, ◌≤◌, length};
 ghost use Rattle.sets.specs.Bits.{right_count};
 
+use std::io::Write;
 use writer::{put_byte, put_text};
 
 // A text as it stands.
-pub fn say(text: &[u8]) -> bool {
-    streams::write(text)
+pub fn say<W: Write>(output: &mut W, text: &[u8]) -> bool {
+    streams::write(output, text)
 }
 
 // The first n bytes of a buffer.
-pub fn say_first(out: &[u8], n: usize) -> bool
+pub fn say_first<W: Write>(output: &mut W, out: &[u8], n: usize) -> bool
     requires { n ≤ length out.now }
 {
-    streams::write(&out[..n])
+    streams::write(output, &out[..n])
 }
 
 // A number of 32 bits; one that does not fit is as good as the largest. No row of a text of 1 MiB has such a number.
@@ -46,29 +47,29 @@ fn put_rights(out: &mut [u8], at: usize, rights: u8) -> usize
 }
 
 // A word with its comma, and a number.
-pub fn say_count(word: &[u8], n: usize) -> bool
+pub fn say_count<W: Write>(output: &mut W, word: &[u8], n: usize) -> bool
     requires { length word.now ≤ 16 }
 {
     let mut out = [0u8; 32];
     let a = put_text(&mut out, 0, word);
     let b = put_count(&mut out, a, n);
     let end = put_byte(&mut out, b, b'\n');
-    say_first(&out, end)
+    say_first(output, &out, end)
 }
 
 // `refused`, the number, and the row.
-pub fn say_refused(number: u8, row: usize) -> bool {
+pub fn say_refused<W: Write>(output: &mut W, number: u8, row: usize) -> bool {
     let mut out = [0u8; 32];
     let a = put_text(&mut out, 0, b"refused,");
     let b = put_count(&mut out, a, number as usize);
     let c = put_byte(&mut out, b, b',');
     let d = put_count(&mut out, c, row);
     let end = put_byte(&mut out, d, b'\n');
-    say_first(&out, end)
+    say_first(output, &out, end)
 }
 
 // `performed`, the site of the thread, the target, and the right.
-pub fn say_performed(site: u8, target: u8, right: u8) -> bool {
+pub fn say_performed<W: Write>(output: &mut W, site: u8, target: u8, right: u8) -> bool {
     let mut out = [0u8; 48];
     let a = put_text(&mut out, 0, b"performed,s");
     let b = put_count(&mut out, a, site as usize);
@@ -77,10 +78,10 @@ pub fn say_performed(site: u8, target: u8, right: u8) -> bool {
     let e = put_byte(&mut out, d, b',');
     let f = put_rights(&mut out, e, right);
     let end = put_byte(&mut out, f, b'\n');
-    say_first(&out, end)
+    say_first(output, &out, end)
 }
 
 // The row of a broken frame.
-pub fn say_broken() -> bool {
-    say(b"bad frame\n")
+pub fn say_broken<W: Write>(output: &mut W) -> bool {
+    say(output, b"bad frame\n")
 }
