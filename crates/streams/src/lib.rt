@@ -3,8 +3,9 @@
 //! Nothing here allocates.
 #![tactic(auto)]
 
-ghost use Rattle.std.specs.Prelude.{◌≡◌, ◌≤◌, length, min};
+ghost use Rattle.std.specs.Prelude.{◌≡◌, ℕ, true, false, ◌<◌, ◌≤◌, length, min, take};
 ghost use Rattle.std.specs.Io.{ReadsAtMost};
+ghost use Rattle.std.specs.Io.KnownBytes.{Appends, Consumes, IsAtEnd};
 ghost use Rattle.streams.specs.Got.{Counts, fails, clamped};
 
 use std::env::{Env, FillError};
@@ -148,7 +149,9 @@ fn got_of(answer: io::Result<usize>, buf: &[u8]) -> Got
 }
 
 // Whether a call failed because a signal interrupted it.
-fn interrupted(answer: &io::Result<usize>) -> bool {
+fn interrupted(answer: &io::Result<usize>) -> bool
+    ensures { result ≡ true → fails answer.now ≡ true }
+{
     match answer {
         Ok(_) => false,
         Err(why) => why.kind() == ErrorKind::Interrupted,
@@ -157,7 +160,10 @@ fn interrupted(answer: &io::Result<usize>) -> bool {
 
 // One read into a buffer. The turns count the interruptions: no run uses them up.
 pub fn read<R: Read>(input: &mut R, buf: &mut [u8]) -> Got
-    ensures { Counts result.count buf.new }
+    ensures within { Counts result.count buf.new }
+    ensures taken { Consumes (R.remaining input.old) (R.remaining input.new) (take result.count buf.new) }
+    ensures none { result.failed ≡ true → result.count ≡ 0 }
+    ensures end { result.failed ≡ false → result.count ≡ 0 → 0 < length buf.new → IsAtEnd (R.remaining input.new) }
 {
     for _ in 0..u64::MAX {
         let answer = input.read(buf);
@@ -184,7 +190,9 @@ fn reading_of(last: Got, done: usize) -> Got
 
 // Reads until the buffer is full, the input ends or a read fails.
 pub fn read_full<R: Read>(input: &mut R, buf: &mut [u8]) -> Got
-    ensures { Counts result.count buf.new }
+    ensures within { Counts result.count buf.new }
+    ensures taken { Consumes (R.remaining input.old) (R.remaining input.new) (take result.count buf.new) }
+    ensures end { result.failed ≡ false → result.count < length buf.new → IsAtEnd (R.remaining input.new) }
 {
     let mut done: usize = 0;
     while done < buf.len() {
@@ -205,7 +213,8 @@ pub fn read_full<R: Read>(input: &mut R, buf: &mut [u8]) -> Got
 
 // One write: how many bytes were taken, 0 where it failed.
 fn write_some<W: Write>(output: &mut W, bytes: &[u8]) -> usize
-    ensures { result ≤ length bytes.now }
+    ensures within { result ≤ length bytes.now }
+    ensures put { Appends (W.contents output.old) (W.contents output.new) (take result bytes.now) }
 {
     for _ in 0..u64::MAX {
         let answer = output.write(bytes);
@@ -216,8 +225,11 @@ fn write_some<W: Write>(output: &mut W, bytes: &[u8]) -> usize
     0
 }
 
-// Writes all of the bytes, or answers false where a write failed.
-pub fn write<W: Write>(output: &mut W, bytes: &[u8]) -> bool {
+// Writes all of the bytes, or answers false where a write failed: then the first of them may have been written.
+pub fn write<W: Write>(output: &mut W, bytes: &[u8]) -> bool
+    ensures all { result ≡ true → Appends (W.contents output.old) (W.contents output.new) bytes.now }
+    ensures first { (n : ℕ) × Appends (W.contents output.old) (W.contents output.new) (take n bytes.now) }
+{
     let mut done: usize = 0;
     while done < bytes.len() {
         let put = write_some(output, &bytes[done..]);

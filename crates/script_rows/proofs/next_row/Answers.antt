@@ -1,5 +1,4 @@
 use mathlib.Core.Path.{refl, ◌∙◌}
-use Prim.Native.Nat.{◌-◌}
 use native.Mathlib.Omega.{arith}
 use Rattle.script_rows.proofs.Rows.{kept_on, found_on}
 use borrow.Author.Rules.{rules}
