@@ -11,7 +11,7 @@ ghost use Rattle.streams.specs.Got.{Counts, fails, clamped};
 use std::env::{Env, FillError};
 use std::fs::File;
 use std::io;
-use std::io::{ErrorKind, Read, Stderr, Stdin, Stdout, Write};
+use std::io::{ErrorKind, Read, Stdin, Stdout, Write};
 
 // Room for the longest name of a file.
 pub const NAME: usize = 4096;
