@@ -7,6 +7,7 @@ ghost use Rattle.commands.specs.Asked.{none, Stops};
 ghost use Rattle.text.specs.Pieces.{Cut};
 
 use script_rows::{END, FAILED, FULL, Window};
+use std::io::Read;
 use text::{EDGES, Spelled};
 
 // The most bytes of a command row.
@@ -208,13 +209,13 @@ fn passed_over(w: Window) -> Command
 }
 
 // A `bring` with its rows, up to the next row `.` or the end of the input.
-fn with_rows(buf: &mut [u8], last: Window) -> Asked
+fn with_rows<R: Read>(input: &mut R, buf: &mut [u8], last: Window) -> Asked
     requires { Within last buf.old }
     ensures { Within result.window buf.new × Stops result.window result.command }
 {
-    let w = script_rows::dot(buf, script_rows::passed(last));
+    let w = script_rows::dot(input, buf, script_rows::passed(last));
     if w.found == FULL {
-        let behind = script_rows::dot_alone(buf, w);
+        let behind = script_rows::dot_alone(input, buf, w);
         return Asked {
             command: passed_over(behind),
             window: behind,
@@ -227,14 +228,14 @@ fn with_rows(buf: &mut [u8], last: Window) -> Asked
 }
 
 // What the input asks next.
-pub fn next(buf: &mut [u8], last: Window) -> Asked
+pub fn next<R: Read>(input: &mut R, buf: &mut [u8], last: Window) -> Asked
     requires { Within last buf.old }
     ensures { Within result.window buf.new × Stops result.window result.command }
 {
-    let w = script_rows::row_alone(buf, last);
+    let w = script_rows::row_alone(input, buf, last);
     let command = of_found(buf, w);
     if command.kind == BRING {
-        return with_rows(buf, w);
+        return with_rows(input, buf, w);
     }
     Asked { command, window: w }
 }

@@ -7,6 +7,7 @@ ghost use Rattle.state.specs.Fits.{Fits};
 
 use answers::{put_count, say_first};
 use state::State;
+use std::io::Write;
 use threads::Thread;
 use writer::{put_byte, put_text};
 
@@ -107,7 +108,7 @@ fn put_bindings(out: &mut [u8], at: usize, th: Thread) -> usize
 }
 
 // A thread: its site, its policy, its line, its bindings.
-fn say_thread(th: Thread) -> bool {
+fn say_thread<W: Write>(output: &mut W, th: Thread) -> bool {
     let mut out = [0u8; 896];
     let site = th.site;
     let a = put_text(&mut out, 0, b"thread,s");
@@ -120,16 +121,16 @@ fn say_thread(th: Thread) -> bool {
     let g = put_byte(&mut out, f, b',');
     let h = put_bindings(&mut out, g, th);
     let end = put_byte(&mut out, h, b'\n');
-    say_first(&out, end)
+    say_first(output, &out, end)
 }
 
 // The first n threads.
-fn say_threads(items: [Thread; 64], n: usize) -> bool
+fn say_threads<W: Write>(output: &mut W, items: [Thread; 64], n: usize) -> bool
     requires { n ≤ 64 }
 {
     let mut k: usize = 0;
     while k < n {
-        if !say_thread(items[k]) {
+        if !say_thread(output, items[k]) {
             return false;
         }
         k += 1;
@@ -172,12 +173,12 @@ fn put_sites(out: &mut [u8], at: usize, row: [u8; 6]) -> usize
 }
 
 // A tuple: its site, its fields.
-fn say_tuple(row: [u8; 6]) -> bool {
+fn say_tuple<W: Write>(output: &mut W, row: [u8; 6]) -> bool {
     let mut out = [0u8; 80];
     let a = put_text(&mut out, 0, b"tuple");
     let b = put_sites(&mut out, a, row);
     let end = put_byte(&mut out, b, b'\n');
-    say_first(&out, end)
+    say_first(output, &out, end)
 }
 
 // The bytes of tuple i.
@@ -196,12 +197,12 @@ fn tuple_at(rows: &[u8; 1536], i: usize) -> [u8; 6]
 }
 
 // The first n tuples.
-fn say_tuples(rows: &[u8; 1536], n: usize) -> bool
+fn say_tuples<W: Write>(output: &mut W, rows: &[u8; 1536], n: usize) -> bool
     requires { (n ≤ 256) × (length rows.now ≡ 1536) }
 {
     let mut i: usize = 0;
     while i < n {
-        if !say_tuple(tuple_at(rows, i)) {
+        if !say_tuple(output, tuple_at(rows, i)) {
             return false;
         }
         i += 1;
@@ -233,18 +234,18 @@ fn put_roots(out: &mut [u8], at: usize, roots: [u8; 256], n: usize) -> usize
 }
 
 // The first n roots.
-fn say_roots(roots: [u8; 256], n: usize) -> bool
+fn say_roots<W: Write>(output: &mut W, roots: [u8; 256], n: usize) -> bool
     requires { n ≤ 256 }
 {
     let mut out = [0u8; 2832];
     let a = put_text(&mut out, 0, b"roots");
     let b = put_roots(&mut out, a, roots, n);
     let end = put_byte(&mut out, b, b'\n');
-    say_first(&out, end)
+    say_first(output, &out, end)
 }
 
 // How many threads, tuples and lines there are.
-fn say_counts(threads: usize, tuples: usize, lines: usize) -> bool {
+fn say_counts<W: Write>(output: &mut W, threads: usize, tuples: usize, lines: usize) -> bool {
     let mut out = [0u8; 48];
     let a = put_text(&mut out, 0, b"state,");
     let b = put_count(&mut out, a, threads);
@@ -253,35 +254,35 @@ fn say_counts(threads: usize, tuples: usize, lines: usize) -> bool {
     let e = put_byte(&mut out, d, b',');
     let f = put_count(&mut out, e, lines);
     let end = put_byte(&mut out, f, b'\n');
-    say_first(&out, end)
+    say_first(output, &out, end)
 }
 
 // The lines, and the roots of what was brought.
-fn say_lines(state: State) -> bool
+fn say_lines<W: Write>(output: &mut W, state: State) -> bool
     requires { Fits state }
 {
-    if !answers::say_count(b"lines,", state.nlines) {
+    if !answers::say_count(output, b"lines,", state.nlines) {
         return false;
     }
     let roots = state.arrivals;
-    say_roots(roots, state.narrivals)
+    say_roots(output, roots, state.narrivals)
 }
 
 // The whole state: its sizes, its threads, its tuples, its lines, the roots of what was brought.
-pub fn say_state(state: State) -> bool
+pub fn say_state<W: Write>(output: &mut W, state: State) -> bool
     requires { Fits state }
 {
     let n = state.run.nthreads;
     let m = state.run.ntuples;
-    if !say_counts(n, m, state.nlines) {
+    if !say_counts(output, n, m, state.nlines) {
         return false;
     }
     let items = state.run.threads;
-    if !say_threads(items, n) {
+    if !say_threads(output, items, n) {
         return false;
     }
-    if !say_tuples(&state.tuples, m) {
+    if !say_tuples(output, &state.tuples, m) {
         return false;
     }
-    say_lines(state)
+    say_lines(output, state)
 }

@@ -1,22 +1,26 @@
+//! Runs an engine script from the file that its argument names or from standard input: net rows, a row `.`, estimate rows, a row `.`
+//! and commands; one row for each command as soon as it is there, and at the end the state, on standard output.
 #![tactic(auto)]
 
-// Runs an engine script from the file that its argument names or from standard input: net rows, a row `.`, estimate rows, a row `.`
-// and commands; one row for each command as soon as it is there, and at the end the state, on standard output.
-use streams::Ending;
+use std::io::{Read, Write};
+use streams::{Ending, NAME, Output};
 
 // A function of its own keeps the million zeros out of what is to be proved of its caller.
 fn room() -> [u8; scripts::ROOM] {
     [0; scripts::ROOM]
 }
 
-fn run(fd: i32) -> Ending {
+fn run<R: Read, W: Write>(input: &mut R, output: &mut W) -> Ending {
     let mut buffer = room();
-    scripts::run(&mut buffer, script_rows::fresh(fd))
+    scripts::run(input, output, &mut buffer, script_rows::fresh())
 }
 
-fn main() {
-    let mut name = io::buffer();
-    let source = streams::open(
+fn main(rt: HostRuntime) {
+    let mut name = [0u8; NAME];
+    let mut output = Output::stdout(rt.stdout());
+    let mut source = streams::open(
+        &rt,
+        &mut output,
         b"lotrun",
         b"usage: lotrun [FILE]\n\
         Runs a net in the engine. FILE, or else standard input, has the rows of the\n\
@@ -29,6 +33,14 @@ fn main() {
     );
     if source.ready {
         let n = source.length;
-        streams::tell_ending(b"lotrun", &name[..n], run(source.fd));
+        let ending = run(&mut source.input, &mut output);
+        streams::tell_ending(
+            &mut rt.stderr(),
+            b"lotrun",
+            &name[..n],
+            &source.input,
+            &output,
+            ending,
+        );
     }
 }

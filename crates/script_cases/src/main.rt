@@ -1,22 +1,24 @@
+//! Runs `scripts::run` on many cases from one input, framed as `frames` says: for each a row `case,K` and what its script prints.
 #![tactic(auto)]
 
-// Runs `scripts::run` on many cases from one input, framed as `frames` says: for each a row `case,K` and what its script prints.
 ghost use Rattle.std.specs.Prelude.{◌<◌};
 
-use streams::Ending;
+use std::io;
+use std::io::{Read, Write};
+use streams::{Ending, NAME, Output};
 
 // Case k: its row and what its script prints.
-fn run_case(k: usize, case: &mut [u8]) -> Ending {
-    if !answers::say_count(b"case,", k) {
+fn run_case<W: Write>(output: &mut W, k: usize, case: &mut [u8]) -> Ending {
+    if !answers::say_count(output, b"case,", k) {
         return Ending::Unwritten;
     }
     let n = case.len();
-    scripts::run(case, script_rows::whole(n))
+    scripts::run(&mut io::empty(), output, case, script_rows::whole(n))
 }
 
 // Whether case k was run to its end.
-fn ran(k: usize, case: &mut [u8]) -> bool {
-    match run_case(k, case) {
+fn ran<W: Write>(output: &mut W, k: usize, case: &mut [u8]) -> bool {
+    match run_case(output, k, case) {
         Ending::Done => true,
         Ending::Unread => false,
         Ending::Unwritten => false,
@@ -24,17 +26,17 @@ fn ran(k: usize, case: &mut [u8]) -> bool {
 }
 
 // Every case in turn; a broken frame ends the run.
-fn run_all(input: &mut [u8]) -> bool {
+fn run_all<W: Write>(output: &mut W, input: &mut [u8]) -> bool {
     let mut at: usize = 0;
     let mut k: usize = 0;
     while at < input.len() {
         let frame = frames::next(input, at);
         if !frame.good {
-            return answers::say_broken();
+            return answers::say_broken(output);
         }
         let from = frame.from;
         let end = frame.end;
-        if !ran(k, &mut input[from..end]) {
+        if !ran(output, k, &mut input[from..end]) {
             return false;
         }
         at = end;
@@ -44,22 +46,25 @@ fn run_all(input: &mut [u8]) -> bool {
 }
 
 // Reads the cases and writes what they give.
-fn run(fd: i32) -> Ending {
+fn run<R: Read, W: Write>(input: &mut R, output: &mut W) -> Ending {
     let mut buffer = frames::room();
-    let got = streams::read_full(fd, &mut buffer);
+    let got = streams::read_full(input, &mut buffer);
     if got.failed {
         return Ending::Unread;
     }
     let n = got.count;
-    if run_all(&mut buffer[..n]) {
+    if run_all(output, &mut buffer[..n]) {
         return Ending::Done;
     }
     Ending::Unwritten
 }
 
-fn main() {
-    let mut name = io::buffer();
-    let source = streams::open(
+fn main(rt: HostRuntime) {
+    let mut name = [0u8; NAME];
+    let mut output = Output::stdout(rt.stdout());
+    let mut source = streams::open(
+        &rt,
+        &mut output,
         b"script_cases",
         b"usage: script_cases [FILE]\n\
         Runs many inputs of lotrun. FILE, or else standard input, has for each a row\n\
@@ -68,6 +73,14 @@ fn main() {
     );
     if source.ready {
         let n = source.length;
-        streams::tell_ending(b"script_cases", &name[..n], run(source.fd));
+        let ending = run(&mut source.input, &mut output);
+        streams::tell_ending(
+            &mut rt.stderr(),
+            b"script_cases",
+            &name[..n],
+            &source.input,
+            &output,
+            ending,
+        );
     }
 }

@@ -13,7 +13,7 @@ use Rattle.klaim.specs.Rows.{newline}
 use Rattle.text.specs.Pieces.{end_of}
 use Rattle.text.proofs.Pieces.{end_none, end_hit}
 use Rattle.script_rows.specs.declared.Window.{Window}
-use Rattle.script_rows.specs.Window.{input_ended, buffer_full, passed_over, read_failed, more_to_come, Within, Kept, Unended, IsRow, Found, LongRow, Seeks, Turned, Roomy, Given, Read}
+use Rattle.script_rows.specs.Window.{input_ended, buffer_full, passed_over, read_failed, more_to_come, Within, Kept, Unended, Found, LongRow, Seeks, Turned, Roomy, Given, Read}
 
 -- bytes before those that were read
 pub before_read : (n k : ℕ) (old read : List ℕ) → n ≤ length old → (i : ℕ) → i < n → get_or (put_mid n k old read) i 0 ≡ get_or old i 0

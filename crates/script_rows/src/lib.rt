@@ -4,14 +4,14 @@
 ghost use Rattle.std.specs.Prelude.{◌≡◌, not, ◌+◌, ◌<◌, ◌≤◌, length};
 ghost use Rattle.script_rows.specs.Window.{row_there, input_ended, more_to_come, Within, Kept, Found, Alone, dot_row, Dotted, LongRow, Seeks, Turned, Roomy, Given, Read};
 
+use std::io::Read;
 use streams::Got;
 
 // The bytes of the input from `from` to `to` are in the buffer; those before are done with. The row that was asked for begins
 // at `row` and ends at `next`, its 0A included. While its end is looked for, `next` says how far.
 #[derive(Clone, Copy)]
 pub struct Window {
-    pub fd: i32,
-    // Whether more may come from the descriptor.
+    // Whether more may come from the input.
     pub more: bool,
     pub found: u8,
     pub from: usize,
@@ -39,11 +39,10 @@ pub const FAILED: u8 = 4;
 const MORE: u8 = 5;
 
 // An input of which nothing has come yet.
-pub fn fresh(fd: i32) -> Window
+pub fn fresh() -> Window
     ensures { (result.from ≡ 0) × (result.row ≡ 0) × (result.next ≡ 0) × (result.to ≡ 0) }
 {
     Window {
-        fd,
         more: true,
         found: ROW,
         from: 0,
@@ -58,7 +57,6 @@ pub fn whole(n: usize) -> Window
     ensures { (result.from ≡ 0) × (result.row ≡ 0) × (result.next ≡ 0) × (result.to ≡ n) }
 {
     Window {
-        fd: libc::STDIN_FILENO,
         more: false,
         found: ROW,
         from: 0,
@@ -171,7 +169,7 @@ fn behind_read(last: Window, got: Got) -> Window
 }
 
 // Reads more behind what is there.
-fn read_more(buf: &mut [u8], last: Window) -> Window
+fn read_more<R: Read>(input: &mut R, buf: &mut [u8], last: Window) -> Window
     requires { Within last buf.old }
     ensures { Read last buf.old result buf.new }
 {
@@ -179,12 +177,12 @@ fn read_more(buf: &mut [u8], last: Window) -> Window
     if to == buf.len() {
         return found(last, FULL);
     }
-    let got = streams::read(last.fd, &mut buf[to..]);
+    let got = streams::read(input, &mut buf[to..]);
     behind_read(last, got)
 }
 
 // Reads more, all that is there having been looked at.
-fn look_further(buf: &mut [u8], last: Window) -> Window
+fn look_further<R: Read>(input: &mut R, buf: &mut [u8], last: Window) -> Window
     requires { Seeks last buf.old × (last.next ≡ last.to) }
     ensures { Turned last buf.old result buf.new }
 {
@@ -192,11 +190,11 @@ fn look_further(buf: &mut [u8], last: Window) -> Window
         return at_end(last);
     }
     let roomy = with_room(buf, last);
-    read_more(buf, roomy)
+    read_more(input, buf, roomy)
 }
 
 // Looks for the end of the row in what is there and was not looked at; reads more, where it is not there.
-fn look_on(buf: &mut [u8], last: Window) -> Window
+fn look_on<R: Read>(input: &mut R, buf: &mut [u8], last: Window) -> Window
     requires { Seeks last buf.old }
     ensures { Turned last buf.old result buf.new }
 {
@@ -207,18 +205,18 @@ fn look_on(buf: &mut [u8], last: Window) -> Window
     }
     let mut w = last;
     w.next = to;
-    look_further(buf, w)
+    look_further(input, buf, w)
 }
 
 // The next row. What stands from `from` on is kept.
-pub fn next_row(buf: &mut [u8], last: Window) -> Window
+pub fn next_row<R: Read>(input: &mut R, buf: &mut [u8], last: Window) -> Window
     requires { Within last buf.old }
     ensures { Found last.from last.next last.to last.more buf.old result buf.new }
 {
     let mut w = last;
     w.row = w.next;
     loop {
-        w = look_on(buf, w);
+        w = look_on(input, buf, w);
         if w.found != MORE {
             return w;
         }
@@ -226,7 +224,7 @@ pub fn next_row(buf: &mut [u8], last: Window) -> Window
 }
 
 // Passes over a row that fills the buffer, to its end.
-fn pass_over(buf: &mut [u8], last: Window) -> Window
+fn pass_over<R: Read>(input: &mut R, buf: &mut [u8], last: Window) -> Window
     requires { Within last buf.old }
     ensures { Within result buf.new }
 {
@@ -234,7 +232,7 @@ fn pass_over(buf: &mut [u8], last: Window) -> Window
     let mut turns = u64::MAX;
     while 0 < turns && w.found == FULL {
         w.next = w.to;
-        w = next_row(buf, passed(w));
+        w = next_row(input, buf, passed(w));
         turns -= 1;
     }
     w
@@ -251,15 +249,15 @@ fn long_row(w: Window) -> Window
 }
 
 // The next row, kept alone. One that does not fit into the buffer is passed over.
-pub fn row_alone(buf: &mut [u8], last: Window) -> Window
+pub fn row_alone<R: Read>(input: &mut R, buf: &mut [u8], last: Window) -> Window
     requires { Within last buf.old }
     ensures { Alone last buf.old result buf.new }
 {
-    let first = next_row(buf, passed(last));
+    let first = next_row(input, buf, passed(last));
     if first.found != FULL {
         return first;
     }
-    long_row(pass_over(buf, first))
+    long_row(pass_over(input, buf, first))
 }
 
 // Whether the row that was found is `.`.
@@ -275,13 +273,13 @@ fn is_dot(buf: &[u8], w: Window) -> bool
 }
 
 // The next row `.`. The rows before it are kept.
-pub fn dot(buf: &mut [u8], last: Window) -> Window
+pub fn dot<R: Read>(input: &mut R, buf: &mut [u8], last: Window) -> Window
     requires { Within last buf.old }
     ensures { Dotted last buf.old result buf.new }
 {
     let mut w = last;
     loop {
-        w = next_row(buf, w);
+        w = next_row(input, buf, w);
         if w.found != ROW {
             return w;
         }
@@ -303,7 +301,7 @@ fn is_other(buf: &[u8], w: Window) -> bool
 }
 
 // The next row `.`, where the rows before it do not fit into the buffer: they are passed over.
-pub fn dot_alone(buf: &mut [u8], last: Window) -> Window
+pub fn dot_alone<R: Read>(input: &mut R, buf: &mut [u8], last: Window) -> Window
     requires { Within last buf.old }
     ensures { Within result buf.new }
 {
@@ -311,7 +309,7 @@ pub fn dot_alone(buf: &mut [u8], last: Window) -> Window
     w.next = w.row;
     let mut turns = u64::MAX;
     while 0 < turns && is_other(buf, w) {
-        w = row_alone(buf, w);
+        w = row_alone(input, buf, w);
         turns -= 1;
     }
     w

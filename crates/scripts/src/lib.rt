@@ -13,6 +13,7 @@ use commands::Command;
 use ready::{DoorAnswer, ReadyAnswer};
 use script_rows::Window;
 use state::{State, Told};
+use std::io::{Read, Write};
 use streams::Ending;
 
 // The most bytes of net, estimate and the rows `.` behind them.
@@ -22,40 +23,40 @@ const HEAD_LIMIT: usize = 1048576;
 pub const ROOM: usize = HEAD_LIMIT + 1;
 
 // The row for what a step did.
-fn say_step(told: Told) -> bool {
+fn say_step<W: Write>(output: &mut W, told: Told) -> bool {
     if told.number != 0 {
-        return answers::say_refused(told.number, told.row);
+        return answers::say_refused(output, told.number, told.row);
     }
     if told.event == state::PERFORMED {
-        return answers::say_performed(told.site, told.target, told.right);
+        return answers::say_performed(output, told.site, told.target, told.right);
     }
-    answers::say(b"silent\n")
+    answers::say(output, b"silent\n")
 }
 
 // The row for what a bring or a withdrawal did: its word, and the line of the arrival's root.
-fn say_root(word: &[u8], told: Told) -> bool
+fn say_root<W: Write>(output: &mut W, word: &[u8], told: Told) -> bool
     requires { length word.now ≤ 16 }
 {
     if told.number != 0 {
-        return answers::say_refused(told.number, told.row);
+        return answers::say_refused(output, told.number, told.row);
     }
-    answers::say_count(word, told.site as usize)
+    answers::say_count(output, word, told.site as usize)
 }
 
 // The row for the door's answer.
-fn say_door(answer: DoorAnswer) -> bool {
+fn say_door<W: Write>(output: &mut W, answer: DoorAnswer) -> bool {
     match answer {
-        DoorAnswer::Passes => answers::say(b"passes\n"),
-        DoorAnswer::Closed => answers::say(b"closed\n"),
-        DoorAnswer::Refused(number) => answers::say_refused(number, 0),
+        DoorAnswer::Passes => answers::say(output, b"passes\n"),
+        DoorAnswer::Closed => answers::say(output, b"closed\n"),
+        DoorAnswer::Refused(number) => answers::say_refused(output, number, 0),
     }
 }
 
 // The row for what is ready.
-fn say_ready(answer: ReadyAnswer) -> bool {
+fn say_ready<W: Write>(output: &mut W, answer: ReadyAnswer) -> bool {
     match answer {
-        ReadyAnswer::Place(k) => answers::say_count(b"ready,", k as usize),
-        ReadyAnswer::None => answers::say(b"ready,none\n"),
+        ReadyAnswer::Place(k) => answers::say_count(output, b"ready,", k as usize),
+        ReadyAnswer::None => answers::say(output, b"ready,none\n"),
     }
 }
 
@@ -108,7 +109,7 @@ fn obey(state: State, c: Command, rows: &[u8]) -> State
 }
 
 // The door, and its row.
-fn try_door(state: State, c: Command) -> bool
+fn try_door<W: Write>(output: &mut W, state: State, c: Command) -> bool
     requires { Fits state }
 {
     let nlines = state.nlines;
@@ -126,40 +127,40 @@ fn try_door(state: State, c: Command) -> bool
         c.b,
         c.c,
     );
-    say_door(answer)
+    say_door(output, answer)
 }
 
 // The row for a command that leaves the state as it is.
-fn consult(state: State, c: Command) -> bool
+fn consult<W: Write>(output: &mut W, state: State, c: Command) -> bool
     requires { Fits state }
 {
     if c.kind == commands::DOOR {
-        return try_door(state, c);
+        return try_door(output, state, c);
     }
     if c.kind == commands::READY {
-        return say_ready(ready::ready(state));
+        return say_ready(output, ready::ready(state));
     }
     if c.kind == commands::OVERLONG {
-        return answers::say_refused(2, 0);
+        return answers::say_refused(output, 2, 0);
     }
-    answers::say(b"bad command\n")
+    answers::say(output, b"bad command\n")
 }
 
 // The row for a command, behind which the state is this one.
-fn respond(state: State, c: Command) -> bool
+fn respond<W: Write>(output: &mut W, state: State, c: Command) -> bool
     requires { Fits state }
 {
     let told = state.run.told;
     if c.kind == commands::STEP || c.kind == commands::GUARDED {
-        return say_step(told);
+        return say_step(output, told);
     }
     if c.kind == commands::BRING {
-        return say_root(b"brought,", told);
+        return say_root(output, b"brought,", told);
     }
     if c.kind == commands::WITHDRAW {
-        return say_root(b"withdrawn,", told);
+        return say_root(output, b"withdrawn,", told);
     }
-    consult(state, c)
+    consult(output, state, c)
 }
 
 // How a run ended whose last row was written or not.
@@ -171,53 +172,65 @@ fn ended(written: bool) -> Ending {
 }
 
 // The end of a run: the state is printed, unless the input could not be read.
-fn finish(state: State, kind: u8) -> Ending
+fn finish<W: Write>(output: &mut W, state: State, kind: u8) -> Ending
     requires { Fits state }
     ensures { kind ≡ unread → result ≡ Ending.Unread }
 {
     if kind == commands::UNREAD {
         return Ending::Unread;
     }
-    ended(dump::say_state(state))
+    ended(dump::say_state(output, state))
 }
 
 // Runs the commands to the end of the input. They are counted down, from a number that no run uses up.
-fn run_all(buf: &mut [u8], first: Window, state: State) -> Ending
+fn run_all<R: Read, W: Write>(
+    input: &mut R,
+    output: &mut W,
+    buf: &mut [u8],
+    first: Window,
+    state: State,
+) -> Ending
     requires { Within first buf.old × Fits state }
 {
     let mut last = state;
     let mut w = first;
     let mut left = u64::MAX;
     while 0 < left {
-        let asked = commands::next(buf, w);
+        let asked = commands::next(input, buf, w);
         let c = asked.command;
         w = asked.window;
         if commands::NONE <= c.kind {
-            return finish(last, c.kind);
+            return finish(output, last, c.kind);
         }
         let from = w.from;
         let end = w.row;
         last = obey(last, c, &buf[from..end]);
-        if !respond(last, c) {
+        if !respond(output, last, c) {
             return Ending::Unwritten;
         }
         left -= 1;
     }
-    finish(last, commands::NONE)
+    finish(output, last, commands::NONE)
 }
 
 // Runs the commands on the state that begins, unless it was refused.
-fn carry_on(buf: &mut [u8], head: Window, state: State) -> Ending
+fn carry_on<R: Read, W: Write>(
+    input: &mut R,
+    output: &mut W,
+    buf: &mut [u8],
+    head: Window,
+    state: State,
+) -> Ending
     requires { Within head buf.old × (state.run.told.number ≡ 0 → Fits state) }
 {
     let told = state.run.told;
     if told.number != 0 {
-        return ended(answers::say_refused(told.number, told.row));
+        return ended(answers::say_refused(output, told.number, told.row));
     }
-    if !answers::say(b"started\n") {
+    if !answers::say(output, b"started\n") {
         return Ending::Unwritten;
     }
-    run_all(buf, head, state)
+    run_all(input, output, buf, head, state)
 }
 
 // The state that begins from a net, and an estimate up to a row `.`.
@@ -238,15 +251,15 @@ fn begin(head: &[u8]) -> State
 }
 
 // Reads the head: up to the second row `.`, or all of the input.
-fn read_head(buf: &mut [u8], first: Window) -> Window
+fn read_head<R: Read>(input: &mut R, buf: &mut [u8], first: Window) -> Window
     requires { Within first buf.old }
     ensures { Within result buf.new }
 {
-    let net = script_rows::dot(buf, first);
+    let net = script_rows::dot(input, buf, first);
     if net.found != script_rows::ROW {
         return net;
     }
-    script_rows::dot(buf, net)
+    script_rows::dot(input, buf, net)
 }
 
 // Whether a head is longer than the limit.
@@ -260,18 +273,23 @@ fn is_long(w: Window) -> bool
 }
 
 // Runs a script: net rows, a row `.`, estimate rows, a row `.`, commands. A head longer than the limit is 2, row 0.
-pub fn run(buf: &mut [u8], first: Window) -> Ending
+pub fn run<R: Read, W: Write>(
+    input: &mut R,
+    output: &mut W,
+    buf: &mut [u8],
+    first: Window,
+) -> Ending
     requires { Within first buf.old }
 {
-    let head = read_head(buf, first);
+    let head = read_head(input, buf, first);
     if head.found == script_rows::FAILED {
         return Ending::Unread;
     }
     if is_long(head) {
-        return ended(answers::say_refused(2, 0));
+        return ended(answers::say_refused(output, 2, 0));
     }
     let from = head.from;
     let end = head.next;
     let state = begin(&buf[from..end]);
-    carry_on(buf, head, state)
+    carry_on(input, output, buf, head, state)
 }

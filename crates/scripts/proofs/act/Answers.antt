@@ -1,0 +1,5 @@
+use Rattle.state.proofs.Lent.{own_parts}
+use Rattle.scripts.proofs.act.Goals as goal
+
+pub returns : goal.returns
+returns c = c.step-next.ensures.stepped c.args.state c.requires (own_parts c.args.state)
