@@ -17,9 +17,12 @@ use Rattle.step.proofs.step.Goals as goal
 
 pub returns-then-n-k : goal.returns-then-n-k
 returns-then-n-k c =
-    let ar = c.args in record { stepped = λ x g e.
+    let ar = c.args in record {
+      stepped = λ x g e.
           let f = joined_fits x e g in
-          stepped_joined ar.guarded ar.k ar.m ar.r x e _ _ (stepped_no ar.guarded (joined x e) ar.k ar.m ar.r c.refusing.result f (no_thread_lem ar.guarded (joined x e) ar.k ar.m ar.r c.if-n-k.true (omega (arith, (let the_long : length c.args.run.threads ≡ 64 = search (length_mapped, c.well_formed.1.1.1.1.1.1.1.1.1.0) in the_long), f.threads_few))) c.refusing.ensures); table_after = table_same (ap (λ (x : Run). x.ntuples) c.refusing.ensures.kept) }
+          stepped_joined ar.guarded ar.k ar.m ar.r x e _ _ (stepped_no ar.guarded (joined x e) ar.k ar.m ar.r c.refusing.result f (no_thread_lem ar.guarded (joined x e) ar.k ar.m ar.r c.if-n-k.true (omega (arith, (let the_long : length c.args.run.threads ≡ 64 = search (length_mapped, c.well_formed.1.1.1.1.1.1.1.1.1.0) in the_long), f.threads_few))) c.refusing.ensures);
+      table_after = table_same (ap (λ (x : Run). x.ntuples) c.refusing.ensures.kept);
+    }
 
 pub offset_bounds-next-k : goal.offset_bounds-next-k
 offset_bounds-next-k c = omega (arith, c.if-n-k.false, ((let the_handed-fits : Fits ((joined c.requires.state c.requires.parts)) = joined_fits c.requires.state c.requires.parts c.requires.fits in the_handed-fits)).threads_few)
@@ -37,11 +40,14 @@ pub returns-then-number-ne0 : goal.returns-then-number-ne0
 returns-then-number-ne0 c =
     let ar = c.args in
     let h : ar.k < ar.run.nthreads = c.if-n-k.false in
-    let d = c.decide-d.result in record { stepped = λ x g e.
+    let d = c.decide-d.result in record {
+      stepped = λ x g e.
           let y = joined x e in
           let f = joined_fits x e g in
           let o = c.decide-d.ensures (state_view y) (thread_tables f ((let the_long : length c.args.run.threads ≡ 64 = search (length_mapped, c.well_formed.1.1.1.1.1.1.1.1.1.0) in the_long)) ar.k h) (homes_is_lem y) in
-          stepped_joined ar.guarded ar.k ar.m ar.r x e _ _ (stepped_no ar.guarded y ar.k ar.m ar.r c.refusing-then-number-ne0.result f (step_no ar.guarded y ar.k ar.m ar.r f ((let the_long : length c.args.run.threads ≡ 64 = search (length_mapped, c.well_formed.1.1.1.1.1.1.1.1.1.0) in the_long)) h d o c.if-number-ne0.true) c.refusing-then-number-ne0.ensures); table_after = table_same (ap (λ (x : Run). x.ntuples) c.refusing-then-number-ne0.ensures.kept) }
+          stepped_joined ar.guarded ar.k ar.m ar.r x e _ _ (stepped_no ar.guarded y ar.k ar.m ar.r c.refusing-then-number-ne0.result f (step_no ar.guarded y ar.k ar.m ar.r f ((let the_long : length c.args.run.threads ≡ 64 = search (length_mapped, c.well_formed.1.1.1.1.1.1.1.1.1.0) in the_long)) h d o c.if-number-ne0.true) c.refusing-then-number-ne0.ensures);
+      table_after = table_same (ap (λ (x : Run). x.ntuples) c.refusing-then-number-ne0.ensures.kept);
+    }
 
 pub change_tuples-requires : goal.change_tuples-requires
 change_tuples-requires c =
@@ -109,7 +115,8 @@ returns-then-s c =
     let t = c.change_tuples in
     let a = c.stepped-next in
     let at = c.loop-i in
-    let taken = c.decide-d.ensures (state_view ((joined c.requires.state c.requires.parts))) (thread_tables ((let the_handed-fits : Fits ((joined c.requires.state c.requires.parts)) = joined_fits c.requires.state c.requires.parts c.requires.fits in the_handed-fits)) ((let the_long : length c.args.run.threads ≡ 64 = search (length_mapped, c.well_formed.1.1.1.1.1.1.1.1.1.0) in the_long)) ar.k h) (homes_is_lem ((joined c.requires.state c.requires.parts))) in record { stepped = λ x g p.
+    let taken = c.decide-d.ensures (state_view ((joined c.requires.state c.requires.parts))) (thread_tables ((let the_handed-fits : Fits ((joined c.requires.state c.requires.parts)) = joined_fits c.requires.state c.requires.parts c.requires.fits in the_handed-fits)) ((let the_long : length c.args.run.threads ≡ 64 = search (length_mapped, c.well_formed.1.1.1.1.1.1.1.1.1.0) in the_long)) ar.k h) (homes_is_lem ((joined c.requires.state c.requires.parts))) in record {
+      stepped = λ x g p.
           let y = joined x p in
           let f = joined_fits x p g in
           let o = c.decide-d.ensures (state_view y) (thread_tables f ((let the_long : length c.args.run.threads ≡ 64 = search (length_mapped, c.well_formed.1.1.1.1.1.1.1.1.1.0) in the_long)) ar.k h) (homes_is_lem y) in
@@ -117,7 +124,9 @@ returns-then-s c =
           let few : ar.run.nthreads ≤ length ar.run.threads = omega (arith, (let the_long : length c.args.run.threads ≡ 64 = search (length_mapped, c.well_formed.1.1.1.1.1.1.1.1.1.0) in the_long), f.threads_few) in
           let e = shifted_all ar.run.nthreads ar.k ar.run.threads d.plan.thread h few _ refl d.sizes.nil (rw c.gap-i.ensures at at.invariant.0) c.loop-i-test.false in
           let w = shifted_long ar.run.nthreads ar.k ar.run.threads d.plan.thread h few _ refl at.invariant.0 ∙ (let the_long : length c.args.run.threads ≡ 64 = search (length_mapped, c.well_formed.1.1.1.1.1.1.1.1.1.0) in the_long) in
-          stepped_run (ap (λ (nx : Run). with_threads nx (set at.next.threads d.sizes.left d.plan.added)) (sym at.invariant.0.same)) (stepped_joined ar.guarded ar.k ar.m ar.r x p _ _ (performs_more ar.guarded y ar.k ar.m ar.r f ((let the_long : length c.args.run.threads ≡ 64 = search (length_mapped, c.well_formed.1.1.1.1.1.1.1.1.1.0) in the_long)) h d o z _ t.ensures.rows_len _ a.ensures rows at.next.threads w e c.if-s.true)); table_after = table_by (ap (λ (nx : Run). nx.ntuples) at.invariant.0.same ∙ taken.measured.tuples_is) t.ensures.table_after }
+          stepped_run (ap (λ (nx : Run). with_threads nx (set at.next.threads d.sizes.left d.plan.added)) (sym at.invariant.0.same)) (stepped_joined ar.guarded ar.k ar.m ar.r x p _ _ (performs_more ar.guarded y ar.k ar.m ar.r f ((let the_long : length c.args.run.threads ≡ 64 = search (length_mapped, c.well_formed.1.1.1.1.1.1.1.1.1.0) in the_long)) h d o z _ t.ensures.rows_len _ a.ensures rows at.next.threads w e c.if-s.true));
+      table_after = table_by (ap (λ (nx : Run). nx.ntuples) at.invariant.0.same ∙ taken.measured.tuples_is) t.ensures.table_after;
+    }
 
 pub returns-else-s : goal.returns-else-s
 unfolding tuples_after
@@ -129,11 +138,14 @@ returns-else-s c =
     let t = c.change_tuples in
     let a = c.stepped-next in
     let at = c.loop-i in
-    let taken = c.decide-d.ensures (state_view ((joined c.requires.state c.requires.parts))) (thread_tables ((let the_handed-fits : Fits ((joined c.requires.state c.requires.parts)) = joined_fits c.requires.state c.requires.parts c.requires.fits in the_handed-fits)) ((let the_long : length c.args.run.threads ≡ 64 = search (length_mapped, c.well_formed.1.1.1.1.1.1.1.1.1.0) in the_long)) ar.k h) (homes_is_lem ((joined c.requires.state c.requires.parts))) in record { stepped = λ x g p.
+    let taken = c.decide-d.ensures (state_view ((joined c.requires.state c.requires.parts))) (thread_tables ((let the_handed-fits : Fits ((joined c.requires.state c.requires.parts)) = joined_fits c.requires.state c.requires.parts c.requires.fits in the_handed-fits)) ((let the_long : length c.args.run.threads ≡ 64 = search (length_mapped, c.well_formed.1.1.1.1.1.1.1.1.1.0) in the_long)) ar.k h) (homes_is_lem ((joined c.requires.state c.requires.parts))) in record {
+      stepped = λ x g p.
           let y = joined x p in
           let f = joined_fits x p g in
           let o = c.decide-d.ensures (state_view y) (thread_tables f ((let the_long : length c.args.run.threads ≡ 64 = search (length_mapped, c.well_formed.1.1.1.1.1.1.1.1.1.0) in the_long)) ar.k h) (homes_is_lem y) in
           let rows = rows_view_lem _ o.measured.tuples_is t.ensures.rows_after in
           let few : ar.run.nthreads ≤ length ar.run.threads = omega (arith, (let the_long : length c.args.run.threads ≡ 64 = search (length_mapped, c.well_formed.1.1.1.1.1.1.1.1.1.0) in the_long), f.threads_few) in
           let e = shifted_all ar.run.nthreads ar.k ar.run.threads d.plan.thread h few _ refl d.sizes.nil (rw c.gap-i.ensures at at.invariant.0) c.loop-i-test.false in
-          stepped_run (sym at.invariant.0.same) (stepped_joined ar.guarded ar.k ar.m ar.r x p _ _ (performs_alone ar.guarded y ar.k ar.m ar.r f ((let the_long : length c.args.run.threads ≡ 64 = search (length_mapped, c.well_formed.1.1.1.1.1.1.1.1.1.0) in the_long)) h d o z _ t.ensures.rows_len _ a.ensures rows at.next.threads e c.if-s.false)); table_after = table_by (ap (λ (nx : Run). nx.ntuples) at.invariant.0.same ∙ taken.measured.tuples_is) t.ensures.table_after }
+          stepped_run (sym at.invariant.0.same) (stepped_joined ar.guarded ar.k ar.m ar.r x p _ _ (performs_alone ar.guarded y ar.k ar.m ar.r f ((let the_long : length c.args.run.threads ≡ 64 = search (length_mapped, c.well_formed.1.1.1.1.1.1.1.1.1.0) in the_long)) h d o z _ t.ensures.rows_len _ a.ensures rows at.next.threads e c.if-s.false));
+      table_after = table_by (ap (λ (nx : Run). nx.ntuples) at.invariant.0.same ∙ taken.measured.tuples_is) t.ensures.table_after;
+    }
