@@ -1,11 +1,11 @@
 #!/usr/bin/env python3
 """conversation.py [PROGRAM]: drives the engine through a day at the warehouse of carrier.txt, and prints what is said. PROGRAM is
-lotrun (target/bin/lotrun if not given). It answers each command at once, so that the next one can follow from the answer."""
+lotrun (crates/lotrun/out/lotrun if not given). It answers each command at once, so that the next one can follow from the answer."""
 
 import pathlib, subprocess, sys
 
 examples = pathlib.Path(__file__).resolve().parent
-program = sys.argv[1] if len(sys.argv) > 1 else examples.parent / 'target' / 'bin' / 'lotrun'
+program = sys.argv[1] if len(sys.argv) > 1 else examples.parent / 'crates' / 'lotrun' / 'out' / 'lotrun'
 try:
     engine = subprocess.Popen([program], bufsize=0, stdin=subprocess.PIPE, stdout=subprocess.PIPE)
 except OSError as error:

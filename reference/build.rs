@@ -1,4 +1,4 @@
-//! Where the static library of the proved calls stands, for the binary `bench`.
+//! Where the static library of the proved calls stands (`crates/exports/out`), for the binary `bench`.
 
 fn main() {
     println!("cargo:rerun-if-changed=build.rs");

@@ -1,6 +1,5 @@
 // A library for LD_PRELOAD (reference/edges): `read` and `write` as they come out where signals interrupt them. The environment says what is done:
-//   INTERRUPT_CALLS   every other call fails with EINTR, and the calls between move 1 to 7 bytes, in turn; writes to standard error are
-//                     left as they are, since the toolchain's function that prints why a call failed makes none again;
+//   INTERRUPT_CALLS   every other call fails with EINTR, and the calls between move 1 to 7 bytes, in turn;
 //   INTERRUPT_SIGNAL  SIGUSR1 is handled, without SA_RESTART, so that it interrupts a call that waits;
 //   INTERRUPT_COUNTS  the file to which, at the end of the process, goes a row: reads interrupted, writes interrupted, signals handled.
 #define _GNU_SOURCE
@@ -36,7 +35,7 @@ static ssize_t made(struct calls *calls, ssize_t moved) {
 
 // One call, made by number, so that the functions below are not called again.
 static ssize_t make(struct calls *calls, long number, int file, void *bytes, size_t count) {
-    if (!often || file == STDERR_FILENO)
+    if (!often)
         return made(calls, syscall(number, file, bytes, count));
     long k = calls->made++;
     if (k % 2 == 0) {
