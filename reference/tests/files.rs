@@ -58,7 +58,7 @@ fn no_other_files() {
     let mut names: Vec<String> = names.map(|name| name.into_string().unwrap()).collect();
     names.sort();
     let mut expected: Vec<&str> = LISTINGS.iter().map(|(file, _)| *file).collect();
-    expected.extend([COMMANDS, "conversation.py"]);
+    expected.push(COMMANDS);
     expected.sort_unstable();
     assert_eq!(names, expected);
 }
