@@ -1,5 +1,5 @@
 use mathlib.Core.Path.{◌≡◌}
-use Prim.Native.Nat.{suc, ◌+◌, ◌-◌, ◌<◌}
+use Prim.Native.Nat.{suc, ◌+◌, ◌<◌}
 use native.Mathlib.Omega.{arith}
 use Rattle.brings.proofs.Laws.{sites_none, sites_more, sites_all}
 use Rattle.brings.proofs.sound_sites.Goals as goal

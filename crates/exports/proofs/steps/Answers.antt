@@ -1,4 +1,4 @@
-use Rattle.std.proofs.Common.{◌-◌, ◌<◌, arith}
+use Rattle.std.proofs.Common.{◌<◌, arith}
 use Rattle.state.specs.Lent.{gone_on}
 use Rattle.state.proofs.Lent.{own_parts, hand_over}
 use Rattle.exports.proofs.steps.Goals as goal
