@@ -5,7 +5,7 @@ ghost use Rattle.std.specs.Prelude.{◌≡◌, [], ◌++◌, ℕ, ◌+◌, ◌*�
 ghost use Rattle.sets.specs.Lists.{concat};
 ghost use Rattle.klaim.specs.Net as Spec;
 ghost use Rattle.klaim.specs.Reader.{gives, and_then};
-ghost use Rattle.klaim.specs.State.{settle, root_thread, begin as beginOf};
+ghost use Rattle.klaim.specs.State.{settle, root_thread, begin as begin_of};
 ghost use Rattle.klaim.specs.Invariant.{Invariant};
 ghost use Rattle.tables.specs.View.{lines_view, roots_view};
 ghost use Rattle.threads.specs.View.{thread_view, threads_view};
@@ -161,7 +161,7 @@ fn begun(net: Net, estimate: Estimate, list: Threads, number: u8, row: usize) ->
 // The state that begins from what was read, or the refusal.
 fn begin(w: WorldRead) -> State
     requires { w.number ≡ 0 → RootsPlaced w.net.roots w.net.nroots }
-    ensures result_value { start_view result ≡ and_then (world_answer w) (λ x. gives (beginOf x)) }
+    ensures result_value { start_view result ≡ and_then (world_answer w) (λ x. gives (begin_of x)) }
     ensures fits { Invariant (state_view result) → Fits result }
 {
     let number = w.number;
