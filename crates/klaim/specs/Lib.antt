@@ -4,6 +4,7 @@ pub mod Process
 pub mod Rows
 pub mod Net
 pub mod Reader
+pub mod Refusals
 pub mod Analysis
 pub mod Report
 pub mod Check
