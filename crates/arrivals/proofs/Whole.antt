@@ -12,7 +12,7 @@ use Rattle.klaim.specs.Process.{Line}
 use Rattle.klaim.specs.Rows.{Row}
 use Rattle.klaim.specs.Reader.{Answer, refused, gives, and_then, numbers_of, lines_of, whole, read_arrival}
 use Rattle.tables.specs.View.{lines_view, roots_view, root_at}
-use Rattle.tables.proofs.Lines.{length_view}
+use Rattle.tables.proofs.LineTable.{length_view}
 use Rattle.whole.specs.Number.{whole_number}
 use Rattle.whole.proofs.Number.{whole_is}
 use Rattle.arrivals.specs.declared.ArrivalRows.{ArrivalRows}

@@ -26,7 +26,7 @@ use Rattle.klaim.proofs.Invariant.{bring_keeps}
 use Rattle.klaim.proofs.Process.{tree_old, ordered_join}
 use Rattle.sets.proofs.Tables.{length_table}
 use Rattle.tables.specs.View.{estimate_view, lines_view, row_at, rows_view, InForm}
-use Rattle.tables.proofs.Lines.{length_view, first_lines}
+use Rattle.tables.proofs.LineTable.{length_view, first_lines}
 use Rattle.sets.proofs.Shared.{mem_single}
 use Rattle.rules.specs.Masks.{Sized}
 use Rattle.door.specs.Parts.{sound}

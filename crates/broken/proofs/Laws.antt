@@ -13,7 +13,7 @@ use Rattle.klaim.specs.Net.{Net, Estimate}
 use Rattle.klaim.specs.Analysis.{reach, out_rule, get_rule, eval_rule, broken}
 use Rattle.tables.specs.declared.Action.{Action}
 use Rattle.tables.specs.View.{field_bytes, lines_view, action_line, Decoded, InForm}
-use Rattle.tables.proofs.Lines.{tree_at}
+use Rattle.tables.proofs.LineTable.{tree_at}
 use Rattle.broken.specs.Lowest.{lowest}
 
 pub lowest_high : (xs : List ℕ) → lowest xs ≤ 256

@@ -19,7 +19,7 @@ use Rattle.klaim.specs.Check.{written, check_read, check}
 use Rattle.klaim.specs.Reader.{gives, refused, World, read_both}
 use Rattle.klaim.proofs.Reader.{both_read}
 use Rattle.tables.specs.View.{row_at, rows_view, roots_view, net_view, estimate_view}
-use Rattle.tables.proofs.Lines.{length_view}
+use Rattle.tables.proofs.LineTable.{length_view}
 use Rattle.report.specs.Given.{Rooted, Given}
 use Rattle.report.proofs.Ready.{rooted, given}
 use Rattle.verdict.specs.Verdict.{Tabled, Judgeable}

@@ -20,7 +20,7 @@ use Rattle.klaim.specs.Report.{uses}
 use Rattle.tables.specs.declared.Action.{Action}
 use Rattle.tables.specs.View.{field_bytes, lines_view, action_line, LowLoc, Decoded, InForm}
 use Rattle.tables.specs.declared.Action.TheVariants.{Nil, Par, Rep, Out, In, Read, Eval, Accept}
-use Rattle.tables.proofs.Lines.{tree_at, Child, Next, next}
+use Rattle.tables.proofs.LineTable.{tree_at, Child, Next, next}
 use Rattle.flow.specs.declared.Part.{Part}
 use Rattle.flow.specs.declared.Part.TheVariants.{Nothing, Both, Same, Acts, Accepts}
 use Rattle.flow.specs.Part.{part_of}

@@ -24,7 +24,7 @@ use Rattle.sets.proofs.Tables.{Filled, below_in, in_below, table_in, table_all}
 use Rattle.klaim.specs.Analysis.{choices}
 use Rattle.klaim.specs.Invariant.{all_below, distinct}
 use Rattle.tables.specs.View.{row_at, rows_view}
-use Rattle.tables.proofs.Lines.{get_d_map}
+use Rattle.tables.proofs.LineTable.{get_d_map}
 use Rattle.matching.specs.Index.{in_column, in_rows, in_index, Indexed, Entered, Low}
 use Rattle.matching.proofs.Laws.{count_rule, keep_more, keep_none, Sets, sets_long_lem, fits_long, fits_end, fits_at, row_get, among_low}
 

@@ -20,7 +20,7 @@ use Rattle.klaim.specs.Invariant.{distinct}
 use Rattle.klaim.specs.Analysis.{choices}
 use Rattle.klaim.proofs.Choices.{choices_count, sites_unlike}
 use Rattle.tables.specs.View.{row_at}
-use Rattle.tables.proofs.Lines.{get_d_map}
+use Rattle.tables.proofs.LineTable.{get_d_map}
 
 -- a site is in a set as the code tests it
 pub among_low : (m v : ℕ) → v < 32 → mem v m ≡ among (sites m) v

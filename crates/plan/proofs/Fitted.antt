@@ -9,7 +9,7 @@ use lib.ListN.{length, get_or, get_elem?, take}
 use Rattle.sets.proofs.Lists.{All-in, All-get}
 use Rattle.klaim.specs.Invariant.{ThreadOk}
 use Rattle.tables.specs.View.{estimate_view, lines_view}
-use Rattle.tables.proofs.Lines.{length_view}
+use Rattle.tables.proofs.LineTable.{length_view}
 use Rattle.threads.specs.View.{no_thread, thread_view}
 use Rattle.threads.proofs.Laws.{thread_some}
 use Rattle.state.specs.declared.State.{State}

@@ -27,7 +27,7 @@ use Rattle.door.proofs.Laws.{door_parts}
 use Rattle.klaim.specs.State as Spec
 use Rattle.tables.specs.declared.Action.{Action}
 use Rattle.tables.specs.View.{field_bytes, lines_view, action_line, rows_view, row_at, LowAction, Decoded, InForm}
-use Rattle.tables.proofs.Lines.{line_view_lem}
+use Rattle.tables.proofs.LineTable.{line_view_lem}
 use Rattle.threads.specs.declared.Thread.{Thread}
 use Rattle.threads.specs.View.{thread_view, rebound}
 use Rattle.tuples.proofs.Rows.{row_some, row_none}

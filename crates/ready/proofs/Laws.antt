@@ -24,7 +24,7 @@ use Rattle.klaim.specs.Invariant.{Invariant}
 use Rattle.klaim.specs.Engine.{door_alone, runnable, ready}
 use Rattle.tables.specs.View.{field_bytes, lines_view, action_line, row_at, rows_view, Decoded, InForm}
 use Rattle.tables.specs.declared.Action.{Action}
-use Rattle.tables.proofs.Lines.{line_view_lem}
+use Rattle.tables.proofs.LineTable.{line_view_lem}
 use Rattle.threads.specs.declared.Thread.{Thread}
 use Rattle.threads.specs.View.{no_thread, thread_view, threads_view}
 use Rattle.threads.proofs.Laws.{threads_long, thread_some}

@@ -15,7 +15,7 @@ use Rattle.klaim.specs.declared.Loc.{Loc}
 use Rattle.klaim.specs.Process.{Line, Accept, children, move, ordered}
 use Rattle.klaim.proofs.Process.{child_line}
 use Rattle.tables.specs.View.{loc_of, line_byte, field_bytes, line_by, line_of, lines_view}
-use Rattle.tables.proofs.Lines.{length_view, line_view_lem}
+use Rattle.tables.proofs.LineTable.{length_view, line_view_lem}
 use Rattle.tables.proofs.Bytes.{line_same}
 use Rattle.renumber.specs.Renumber.{moved_bytes}
 

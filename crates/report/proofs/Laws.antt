@@ -20,7 +20,7 @@ use Rattle.klaim.specs.Report.{sure, uses, eval_adds, adds, hold_adds}
 use Rattle.tables.specs.declared.Action.{Action}
 use Rattle.tables.specs.declared.Action.TheVariants.{Nil, Par, Rep, Out, In, Read, Eval, Accept}
 use Rattle.tables.specs.View.{field_bytes, lines_view, action_line, LowLoc, Decoded, InForm}
-use Rattle.tables.proofs.Lines.{tree_at, Child, Next as NextOf, next}
+use Rattle.tables.proofs.LineTable.{tree_at, Child, Next as NextOf, next}
 use Rattle.flow.proofs.Laws.{at_table}
 use Rattle.report.specs.declared.Evals.{Evals}
 use Rattle.report.specs.declared.Evals.TheVariants.{Nothing, Both, Next, Sends}

@@ -9,7 +9,7 @@ use Rattle.klaim.specs.WellFormed.{RootOk, NetOk}
 use Rattle.tables.specs.declared.Net.{Net}
 use Rattle.tables.specs.declared.Estimate.{Estimate}
 use Rattle.tables.specs.View.{root_at, roots_view, net_view, estimate_view}
-use Rattle.tables.proofs.Lines.{length_view}
+use Rattle.tables.proofs.LineTable.{length_view}
 use Rattle.report.specs.Given.{Rooted, Given}
 
 pub given : (N : Net) (E : Estimate) → Given (net_view N) (estimate_view E) N.homes N.boxes N.nlines N.lines E.binds

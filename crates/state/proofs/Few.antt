@@ -4,7 +4,7 @@ use Prim.Native.Nat.{◌≤◌}
 use native.Mathlib.Omega.{arith}
 use Rattle.sets.proofs.Tables.{length_table}
 use Rattle.tables.specs.View.{row_at, rows_view}
-use Rattle.tables.proofs.Lines.{length_view}
+use Rattle.tables.proofs.LineTable.{length_view}
 use Rattle.state.specs.declared.State.{State}
 use Rattle.state.specs.View.{ground_view, state_view}
 use Rattle.state.specs.Fits.{Fits}

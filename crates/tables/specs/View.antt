@@ -9,6 +9,9 @@ use Rattle.klaim.specs.declared.Slot.TheVariants.{Value, Bind, Wildcard}
 use Rattle.klaim.specs.Process.{Line, ordered}
 use Rattle.klaim.specs.Process as Process
 use Rattle.klaim.specs.Net as Spec
+use Rattle.tables.specs.declared.Lines.{Lines}
+use Rattle.tables.specs.declared.Tuples.{Tuples}
+use Rattle.tables.specs.declared.Roots.{Roots}
 use Rattle.tables.specs.declared.Net.{Net}
 use Rattle.tables.specs.declared.Estimate.{Estimate}
 use Rattle.tables.specs.declared.Action.{Action}
@@ -72,20 +75,30 @@ root_at bs i = record { site = get_or bs (2 * i) 0; line = get_or bs (2 * i + 1)
 unfoldable pub roots_view : ℕ → List ℕ → List Spec.Root
 roots_view n bs = table n (root_at bs)
 
-unfoldable pub net_view : Net → Spec.Net
+-- the lines, the tuples and the roots that stand in their tables
+abbrev pub lines_of : Lines → List Line
+lines_of l = lines_view l.count l.bytes
+
+abbrev pub tuples_of : Tuples → List (List ℕ)
+tuples_of t = rows_view t.count t.bytes
+
+abbrev pub roots_of : Roots → List Spec.Root
+roots_of r = roots_view r.count r.bytes
+
+abbrev pub net_view : Net → Spec.Net
 net_view N = record {
   size = N.size;
   homes = N.homes;
   boxes = N.boxes;
-  tuples = rows_view N.ntuples N.tuples;
-  roots = roots_view N.nroots N.roots;
-  lines = lines_view N.nlines N.lines;
+  tuples = tuples_of N.tuples;
+  roots = roots_of N.roots;
+  lines = lines_of N.lines;
 }
 
-unfoldable pub estimate_view : Estimate → Spec.Estimate
+abbrev pub estimate_view : Estimate → Spec.Estimate
 estimate_view E = record {
   binds = E.binds;
-  stand = rows_view E.nstand E.stand;
+  stand = tuples_of E.stand;
   hold = E.hold;
 }
 

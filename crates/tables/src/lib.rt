@@ -2,9 +2,10 @@
 #![tactic(auto)]
 
 ghost use Rattle.std.specs.Prelude.{◌≡◌, List, ℕ, ◌<◌, ◌≤◌, min, get_or, take};
+ghost use Rattle.klaim.specs.Net.{home, box, box_self, may, holds};
 ghost use Rattle.klaim.specs.Process.{line_at};
 ghost use Rattle.klaim.specs.State.{is_nil};
-ghost use Rattle.tables.specs.View.{Decoded, slot_of, loc_of, field_bytes, line_by, lines_view, action_line, LowLoc, LowSlot, LowAction};
+ghost use Rattle.tables.specs.View.{Decoded, slot_of, loc_of, field_bytes, line_by, lines_of, net_view, estimate_view, action_line, LowLoc, LowSlot, LowAction};
 
 use klaim::{Loc, Site, Slot, Var};
 
@@ -55,28 +56,92 @@ pub const FIELD: usize = 6;
 // A target or field as a byte: its sort times 32, and its number.
 pub const SORT: u8 = 32;
 
+// Process lines, `count` of them, each of 10 bytes (see `Lines::action`).
+#[derive(Clone, Copy)]
+pub struct Lines {
+    pub bytes: [u8; 2560],
+    pub count: usize,
+}
+
+// Tuples, `count` of them, each of 6 bytes: how many sites, then the sites.
+#[derive(Clone, Copy)]
+pub struct Tuples {
+    pub bytes: [u8; 1536],
+    pub count: usize,
+}
+
+// Roots, `count` of them, each of 2 bytes: its site and its line.
+#[derive(Clone, Copy)]
+pub struct Roots {
+    pub bytes: [u8; 128],
+    pub count: usize,
+}
+
 // A net as read. A policy byte stands at 32 * s + t, a sandbox's at 33 * k + t (`self` is t = 32).
-// A tuple takes 6 bytes: how many sites, then the sites; a root 2: its site and its line; a line 10 (see `action_at`).
 #[derive(Clone, Copy)]
 pub struct Net {
     pub size: u8,
     pub homes: [u8; 1024],
     pub boxes: [u8; 1056],
-    pub tuples: [u8; 1536],
-    pub ntuples: usize,
-    pub roots: [u8; 128],
-    pub nroots: usize,
-    pub lines: [u8; 2560],
-    pub nlines: usize,
+    pub tuples: Tuples,
+    pub roots: Roots,
+    pub lines: Lines,
 }
 
 // An estimate as read: a set of sites for each variable, tuples, policy bytes.
 #[derive(Clone, Copy)]
 pub struct Estimate {
     pub binds: [u32; 32],
-    pub stand: [u8; 1536],
-    pub nstand: usize,
+    pub stand: Tuples,
     pub hold: [u8; 1024],
+}
+
+impl Net {
+    // The home policy of site s towards t.
+    #[tactic(auto, unfolding(klaim::specs::Net::home))]
+    pub fn home(&self, s: u8, t: u8) -> u8
+        requires { (s < 32) × (t < 32) }
+        ensures { result ≡ home (net_view self.now) s t }
+    {
+        self.homes[SITES * s as usize + t as usize]
+    }
+
+    // Sandbox k towards t.
+    pub fn sandbox(&self, k: u8, t: u8) -> u8
+        requires { (k < 32) × (t < 32) }
+        ensures { result ≡ box (net_view self.now) k t }
+    {
+        self.boxes[BOX * k as usize + t as usize]
+    }
+
+    // Sandbox k towards `self`.
+    #[tactic(auto, unfolding(klaim::specs::Net::box_self))]
+    pub fn sandbox_self(&self, k: u8) -> u8
+        requires { k < 32 }
+        ensures { result ≡ box_self (net_view self.now) k }
+    {
+        self.boxes[BOX * k as usize + OWN]
+    }
+}
+
+impl Estimate {
+    // The sites that variable u may become.
+    #[tactic(auto, unfolding(klaim::specs::Net::may))]
+    pub fn may(&self, u: u8) -> u32
+        requires { u < 32 }
+        ensures { result ≡ may (estimate_view self.now) u }
+    {
+        self.binds[u as usize]
+    }
+
+    // The rights towards t that sandboxes at s may hold.
+    #[tactic(auto, unfolding(klaim::specs::Net::holds))]
+    pub fn holds(&self, s: u8, t: u8) -> u8
+        requires { (s < 32) × (t < 32) }
+        ensures { result ≡ holds (estimate_view self.now) s t }
+    {
+        self.hold[SITES * s as usize + t as usize]
+    }
 }
 
 // What a process line does; `next` is the line that follows, `count` the number of fields.
@@ -150,11 +215,7 @@ pub fn slot_of(code: u8) -> Slot
 fn clamped(count: u8) -> u8
     ensures { result ≡ min count 4 }
 {
-    if count < FIELDS as u8 {
-        count
-    } else {
-        FIELDS as u8
-    }
+    count.min(FIELDS as u8)
 }
 
 // An action from its kind and its numbers.
@@ -218,20 +279,30 @@ pub fn field_at(lines: &[u8; 2560], q: u8, j: u8) -> u8
     lines[at + (j as usize)]
 }
 
-// A byte as an index.
-pub fn wide(x: u8) -> usize
-    ensures { result ≡ x }
-{
-    x as usize
-}
-
-// Whether line q of the n lines is `nil`, or is none of them.
-pub fn is_nil(lines: &[u8; 2560], n: usize, q: u8) -> bool
-    ensures { result ≡ is_nil (line_at (lines_view n lines.now) q) }
-{
-    let at = q as usize;
-    if n <= at {
-        return true;
+impl Lines {
+    // What line q does.
+    pub fn action(&self, q: u8) -> Action
+        ensures { Decoded self.now.bytes q result }
+    {
+        action_at(&self.bytes, q)
     }
-    lines[LINE * at] == 0
+
+    // Field j of line q, as a byte.
+    pub fn field(&self, q: u8, j: u8) -> u8
+        requires { j < 4 }
+        ensures { result ≡ get_or (field_bytes self.now.bytes q) j 0 }
+    {
+        field_at(&self.bytes, q, j)
+    }
+
+    // Whether line q is `nil`, or is none of them.
+    pub fn is_nil(&self, q: u8) -> bool
+        ensures { result ≡ is_nil (line_at (lines_of self.now) q) }
+    {
+        let at = q as usize;
+        if self.count <= at {
+            return true;
+        }
+        self.bytes[LINE * at] == 0
+    }
 }

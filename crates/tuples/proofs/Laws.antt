@@ -21,7 +21,7 @@ use Rattle.klaim.specs.Analysis.{slot_match, matches}
 use Rattle.klaim.specs.State.{Bindings, Thread}
 use Rattle.klaim.specs.Engine.{value, bind_all, agrees}
 use Rattle.tables.specs.View.{LowLoc, LowSlot, slot_of, loc_of, field_bytes, row_at}
-use Rattle.tables.proofs.Lines.{length_first, field_is}
+use Rattle.tables.proofs.LineTable.{length_first, field_is}
 use Rattle.tuples.specs.Rows.{Padded}
 use Rattle.tables.proofs.Bytes.{row_long, row_get}
 use Rattle.threads.specs.View.{rebound}

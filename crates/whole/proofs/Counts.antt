@@ -17,7 +17,7 @@ use Rattle.klaim.specs.Process.{children}
 use Rattle.klaim.specs.Net.{Root}
 use Rattle.klaim.specs.Reader.{named_once}
 use Rattle.tables.specs.View.{line_of, lines_view, root_at}
-use Rattle.tables.proofs.Lines.{length_view}
+use Rattle.tables.proofs.LineTable.{length_view}
 use Rattle.whole.specs.declared.Children.{Children}
 use Rattle.whole.specs.declared.Children.TheVariants.{Zero, One, Two}
 use Rattle.whole.specs.Children.{list_of}

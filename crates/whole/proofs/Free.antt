@@ -24,7 +24,7 @@ use Rattle.klaim.specs.Process.{used_in, bound_in, Tree, out_t, get_t, node, tre
 use Rattle.tables.specs.declared.Action.{Action}
 use Rattle.tables.specs.declared.Action.TheVariants.{Nil, Par, Rep, Out, In, Read, Eval, Accept}
 use Rattle.tables.specs.View.{loc_of, slot_of, field_bytes, lines_view, action_line, LowLoc, Decoded, InForm}
-use Rattle.tables.proofs.Lines.{tree_at, Child, Next, next}
+use Rattle.tables.proofs.LineTable.{tree_at, Child, Next, next}
 use Rattle.whole.specs.declared.Names.{Names}
 use Rattle.whole.specs.declared.Names.TheVariants.{Ends, Follows, Fields, Forks}
 use Rattle.whole.specs.Free.{mask_of, var_in, free_fields, free_forks, names_of}

@@ -15,7 +15,7 @@ use Rattle.klaim.specs.Process.{children, ordered_from, ordered, tree, free}
 use Rattle.klaim.specs.Net.{Root}
 use Rattle.klaim.specs.Reader.{roots_closed}
 use Rattle.tables.specs.View.{line_of, lines_view, root_at, roots_view, InForm}
-use Rattle.tables.proofs.Lines.{length_view}
+use Rattle.tables.proofs.LineTable.{length_view}
 use Rattle.whole.specs.declared.Children.{Children}
 use Rattle.whole.specs.declared.Children.TheVariants.{Zero, One, Two}
 use Rattle.whole.specs.Children.{list_of}

@@ -18,7 +18,7 @@ use Rattle.klaim.specs.Invariant.{Invariant, ArrivalOk, rising}
 use Rattle.klaim.proofs.Newest.{newest_take, older_take, rising_few, rising_less}
 use Rattle.klaim.proofs.Invariant.{withdraw_keeps, newest_ok, rises, kept_tree}
 use Rattle.tables.specs.View.{estimate_view, lines_view}
-use Rattle.tables.proofs.Lines.{length_view, first_lines}
+use Rattle.tables.proofs.LineTable.{length_view, first_lines}
 use Rattle.threads.specs.View.{threads_view}
 use Rattle.door.specs.Parts.{sound}
 use Rattle.state.specs.declared.Told.{Told}

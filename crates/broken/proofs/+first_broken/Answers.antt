@@ -3,7 +3,7 @@ use native.Mathlib.Omega.{arith}
 use Rattle.klaim.specs.Process.{node}
 use Rattle.klaim.specs.Analysis.{broken}
 use Rattle.tables.specs.View.{action_line}
-use Rattle.tables.proofs.Lines.{next}
+use Rattle.tables.proofs.LineTable.{next}
 use Rattle.broken.specs.Lowest.{lowest}
 use Rattle.broken.proofs.Laws.{lowest_both, at_out, at_get, at_eval, broken_at}
 use Rattle.broken.proofs.+first_broken.Goals as goal

@@ -1,6 +1,6 @@
 use native.Mathlib.Omega.{arith}
 use Rattle.tables.specs.View.{lines_view}
-use Rattle.tables.proofs.Lines.{length_view}
+use Rattle.tables.proofs.LineTable.{length_view}
 use Rattle.door.proofs.Laws.{sound_broken, sound_adds}
 use Rattle.door.proofs.sound.Goals as goal
 

@@ -1,6 +1,6 @@
 use mathlib.Core.Path.{refl}
 use Rattle.tables.specs.View.{action_line}
-use Rattle.tables.proofs.Lines.{next}
+use Rattle.tables.proofs.LineTable.{next}
 use Rattle.plan.proofs.Laws.{low_of}
 use Rattle.ready.specs.Runs.{runs}
 use Rattle.ready.proofs.Laws.{room_of, tuples_of, more_of, thread_form, runs_at}

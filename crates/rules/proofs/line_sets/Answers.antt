@@ -4,7 +4,7 @@ use Prim.Native.Nat.{ℕ, ◌+◌}
 use native.Mathlib.Omega.{arith}
 use lib.ListN.{take}
 use Rattle.tables.specs.View.{field_bytes}
-use Rattle.tables.proofs.Lines.{length_fields}
+use Rattle.tables.proofs.LineTable.{length_fields}
 use Rattle.rules.specs.Masks.{field_set}
 use Rattle.rules.proofs.Sets.{sets_more}
 use borrow.Author.Rules.{rules}

@@ -1,4 +1,4 @@
-use Rattle.tables.proofs.Lines.{decoded}
+use Rattle.tables.proofs.LineTable.{decoded}
 use Rattle.tables.proofs.action_at.Goals as goal
 
 pub returns : goal.returns

@@ -1,7 +1,7 @@
 use mathlib.Core.Path.{ap, ◌∙◌}
 use native.Mathlib.Omega.{arith}
 use lib.ListN.{length}
-use Rattle.tables.proofs.Lines.{length_view}
+use Rattle.tables.proofs.LineTable.{length_view}
 use Rattle.rules.specs.Masks.{IndexOf}
 use Rattle.verdict.proofs.Laws.{verdict_is}
 use Rattle.verdict.proofs.judge.Goals as goal

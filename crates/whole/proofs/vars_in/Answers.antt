@@ -4,7 +4,7 @@ use native.Mathlib.Omega.{arith}
 use lib.ListN.{length}
 use Rattle.sets.specs.Bits.{join}
 use Rattle.tables.specs.View.{field_bytes}
-use Rattle.tables.proofs.Lines.{length_fields}
+use Rattle.tables.proofs.LineTable.{length_fields}
 use Rattle.whole.specs.Free.{var_in}
 use Rattle.whole.proofs.Free.{joins_end, joins_down}
 use Rattle.whole.proofs.vars_in.Goals as goal
