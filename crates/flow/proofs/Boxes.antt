@@ -16,17 +16,12 @@ use Rattle.klaim.specs.Report.{sure}
 use Rattle.sets.proofs.Shared.{mem_single}
 use Rattle.flow.proofs.Sites.{some_site, other_site}
 
--- a sandbox's byte
-pub box_here : (N : Net) (bs : List ℕ) (k t : ℕ) → N.boxes ≡ bs → get_or bs (33 * k + t) 0 ≡ box N k t
-unfolding box
-box_here N bs k t e = rw e
-
 -- at the site itself, and at another
-at_own : (N : Net) (k l t : ℕ) → t ≡ l → box_at N k l t ≡ meet (box N k t) (box_self N k)
+pub at_own : (N : Net) (k l t : ℕ) → t ≡ l → box_at N k l t ≡ meet (box N k t) (box_self N k)
 unfolding box_at
 at_own N k l t e = rw (eq-eqb t l e)
 
-at_other : (N : Net) (k l t : ℕ) → (t ≡ l → ⊥) → box_at N k l t ≡ box N k t
+pub at_other : (N : Net) (k l t : ℕ) → (t ≡ l → ⊥) → box_at N k l t ≡ box N k t
 unfolding box_at
 at_other N k l t e = rw (ne_eqb t l e)
 

@@ -25,15 +25,6 @@ use Rattle.flow.specs.declared.Part.{Part}
 use Rattle.flow.specs.declared.Part.TheVariants.{Nothing, Both, Same, Acts, Accepts}
 use Rattle.flow.specs.Part.{part_of}
 
--- a sandbox evaluated at the site itself, and at another
-pub box_own : (N : Net) (bs : List ℕ) (k l t : ℕ) → N.boxes ≡ bs → t ≡ l → bit_and (get_or bs (33 * k + t) 0) (get_or bs (33 * k + 32) 0) ≡ box_at N k l t
-unfolding box_at box box_self meet
-box_own N bs k l t e q = rw (e, eq-eqb t l q)
-
-pub box_other : (N : Net) (bs : List ℕ) (k l t : ℕ) → N.boxes ≡ bs → (t ≡ l → ⊥) → get_or bs (33 * k + t) 0 ≡ box_at N k l t
-unfolding box_at box
-box_other N bs k l t e q = rw (e, ne_eqb t l q)
-
 -- the three kinds of a target
 module _ {x : Loc} where
   pub low_at : {y : Loc} → x ≡ y → LowLoc x → LowLoc y
@@ -48,9 +39,9 @@ module _ {x : Loc} where
     unfolding reach
     reach_here e = rw e
 
-    pub reach_var : {u : Var} (bs : List ℕ) → E.binds ≡ bs → x ≡ Use u → get_or bs u.0 0 ≡ reach E P x
-    unfolding reach may
-    reach_var bs b e = rw (e, b)
+    pub reach_var : {u : Var} → x ≡ Use u → may E u.0 ≡ reach E P x
+    unfolding reach
+    reach_var e = rw e
 
 -- an element of a list that is a table
 pub at_table : (n : ℕ) (f : ℕ → ℕ) {l : List ℕ} → l ≡ table n f → (k : ℕ) → k < n → get_or l k 0 ≡ f k

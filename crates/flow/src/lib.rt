@@ -5,78 +5,65 @@ ghost use Rattle.std.specs.Prelude.{◌≡◌, ◌<◌, get_or};
 ghost use Rattle.sets.specs.Lists.{table};
 ghost use Rattle.sets.specs.Bits.{accept_bit, mem, sites, join, grant, joins};
 ghost use Rattle.klaim.specs.Process.{tree};
-ghost use Rattle.klaim.specs.Net.{Net, Estimate, box, box_at};
+ghost use Rattle.klaim.specs.Net.{box_at};
 ghost use Rattle.klaim.specs.Analysis.{reach as reach_of};
 ghost use Rattle.klaim.specs.Report.{sure, uses};
-ghost use Rattle.tables.specs.View.{lines_view, LowLoc, InForm};
+ghost use Rattle.tables.specs.View.{lines_of, net_view, estimate_view, LowLoc, InForm};
 ghost use Rattle.flow.specs.Part.{part_of};
 
 use klaim::Loc;
-use tables::{Action, BOX, OWN};
+use std::array;
+use tables::{Action, Estimate, Lines, Net};
 
 // The reach of a target or field, `places` being the place set: the sites that it may stand for.
-pub fn reach(x: Loc, places: u32, binds: &[u32; 32]) -> u32
+pub fn reach(x: Loc, places: u32, estimate: &Estimate) -> u32
     requires { LowLoc x }
-    ensures { (E : Estimate) → E.binds ≡ binds.now → result ≡ reach_of E places x }
+    ensures { result ≡ reach_of (estimate_view estimate.now) places x }
 {
     match x {
         Loc::At(s) => sets::single(s.0),
         Loc::Here => places,
-        Loc::Use(u) => {
-            let at = u.0 as usize;
-            binds[at]
-        }
+        Loc::Use(u) => estimate.may(u.0),
     }
 }
 
 // Sandbox k evaluated at site l, towards t.
-pub fn box_at(boxes: &[u8; 1056], k: u8, l: u8, t: u8) -> u8
+pub fn box_at(net: &Net, k: u8, l: u8, t: u8) -> u8
     requires { (k < 32) × (t < 32) }
-    ensures { (N : Net) → N.boxes ≡ boxes.now → result ≡ box_at N k l t }
+    ensures { result ≡ box_at (net_view net.now) k l t }
 {
-    let own = BOX * (k as usize) + OWN;
-    let at = BOX * (k as usize) + (t as usize);
     if t == l {
-        return boxes[at] & boxes[own];
+        return net.sandbox(k, t) & net.sandbox_self(k);
     }
-    boxes[at]
-}
-
-// Sandbox k towards t, at any other site.
-fn box_of(boxes: &[u8; 1056], k: u8, t: u8) -> u8
-    requires { (k < 32) × (t < 32) }
-    ensures { (N : Net) → N.boxes ≡ boxes.now → result ≡ box N k t }
-{
-    let at = BOX * (k as usize) + (t as usize);
-    boxes[at]
+    net.sandbox(k, t)
 }
 
 // What sandbox k gives on site t, evaluated at any of the places: only where t is the one place does `self` count.
-fn box_over(boxes: &[u8; 1056], k: u8, places: u32, t: u8) -> u8
+fn box_over(net: &Net, k: u8, places: u32, t: u8) -> u8
     requires { (k < 32) × (t < 32) }
-    ensures { (N : Net) → N.boxes ≡ boxes.now → result ≡ joins (λ l. box_at N k l t) (sites places) }
+    ensures { result ≡ joins (λ l. box_at (net_view net.now) k l t) (sites places) }
 {
     if places == 0 {
         return 0;
     }
     if places == sets::single(t) {
-        return box_at(boxes, k, t, t);
+        return box_at(net, k, t, t);
     }
-    box_of(boxes, k, t)
+    net.sandbox(k, t)
 }
 
 // The rights towards t that sandbox k has evaluated at every site of a reach: `self` counts where t is one of them.
-pub fn box_sure(boxes: &[u8; 1056], k: u8, set: u32, t: u8) -> u8
+pub fn box_sure(net: &Net, k: u8, set: u32, t: u8) -> u8
     requires { (k < 32) × (t < 32) }
-    ensures { (N : Net) → N.boxes ≡ boxes.now → result ≡ sure N k set t }
+    ensures { result ≡ sure (net_view net.now) k set t }
 {
     if set == 0 {
         return UseMap::EVERY;
     }
     if sets::has_site(set, t) {
-        return box_at(boxes, k, t, t) & UseMap::EVERY;
+        return box_at(net, k, t, t) & UseMap::EVERY;
     }
-    box_of(boxes, k, t) & UseMap::EVERY
+    net.sandbox(k, t) & UseMap::EVERY
 }
 
 // Use map: rights for each site.
@@ -112,60 +99,43 @@ impl UseMap {
     pub fn join(self, other: UseMap) -> UseMap
         ensures { result.rights ≡ table 32 (λ s. join (get_or self.rights s 0) (get_or other.rights s 0)) }
     {
-        let a = self.rights;
-        let b = other.rights;
-        let mut r = [0u8; UseMap::SITES];
-        let mut i: usize = 0;
-        while i < UseMap::SITES {
-            r[i] = a[i] | b[i];
-            i += 1;
-        }
-        UseMap { rights: r }
+        let rights = array::from_fn(|s| self.rights[s] | other.rights[s]);
+        UseMap { rights }
     }
 
     // The right on each site of the set.
     fn over(right: u8, set: u32) -> UseMap
         ensures { result.rights ≡ table 32 (λ s. grant (mem s set) right) }
     {
-        let mut r = [0u8; UseMap::SITES];
-        let mut i: usize = 0;
-        while i < UseMap::SITES {
-            r[i] = sets::granted(set, i as u8, right);
-            i += 1;
-        }
-        UseMap { rights: r }
+        let rights = array::from_fn(|s| sets::granted(set, s as u8, right));
+        UseMap { rights }
     }
 
     // What sandbox k gives, evaluated at any of the places.
-    pub fn of_box(boxes: &[u8; 1056], k: u8, places: u32) -> UseMap
+    pub fn of_box(net: &Net, k: u8, places: u32) -> UseMap
         requires { k < 32 }
-        ensures { (N : Net) → N.boxes ≡ boxes.now → result.rights ≡ table 32 (λ s. joins (λ l. box_at N k l s) (sites places)) }
+        ensures { result.rights ≡ table 32 (λ s. joins (λ l. box_at (net_view net.now) k l s) (sites places)) }
     {
-        let mut r = [0u8; UseMap::SITES];
-        let mut i: usize = 0;
-        while i < UseMap::SITES {
-            r[i] = box_over(boxes, k, places, i as u8);
-            i += 1;
-        }
-        UseMap { rights: r }
+        let rights = array::from_fn(|s| box_over(net, k, places, s as u8));
+        UseMap { rights }
     }
 
     // With the right on each site of the target's reach.
-    fn acting(self, right: u8, target: Loc, places: u32, binds: &[u32; 32]) -> UseMap
+    fn acting(self, right: u8, target: Loc, places: u32, estimate: &Estimate) -> UseMap
         requires { LowLoc target }
-        ensures { (E : Estimate) → E.binds ≡ binds.now → result.rights ≡ table 32 (λ s. join (get_or self.rights s 0) (grant (mem s (reach_of E places target)) right)) }
+        ensures { result.rights ≡ table 32 (λ s. join (get_or self.rights s 0) (grant (mem s (reach_of (estimate_view estimate.now) places target)) right)) }
     {
-        let set = reach(target, places, binds);
+        let set = reach(target, places, estimate);
         self.join(UseMap::over(right, set))
     }
 
     // With right a on each place, and the sandbox evaluated at each place.
-    fn taking(self, boxes: &[u8; 1056], k: u8, places: u32) -> UseMap
+    fn taking(self, net: &Net, k: u8, places: u32) -> UseMap
         requires { k < 32 }
-        ensures { (N : Net) → N.boxes ≡ boxes.now → result.rights ≡ table 32 (λ s. join (get_or self.rights s 0) (join (grant (mem s places) accept_bit) (joins (λ l. box_at N k l s) (sites places)))) }
+        ensures { result.rights ≡ table 32 (λ s. join (get_or self.rights s 0) (join (grant (mem s places) accept_bit) (joins (λ l. box_at (net_view net.now) k l s) (sites places)))) }
     {
         let own = UseMap::over(UseMap::ACCEPT, places);
-        let given = own.join(UseMap::of_box(boxes, k, places));
+        let given = own.join(UseMap::of_box(net, k, places));
         self.join(given)
     }
 }
@@ -213,33 +183,25 @@ fn part_of(action: Action) -> Part
 }
 
 // The use map of line q, `places` being its place set. Children have greater numbers: 256 less q falls.
-pub fn use_map(
-    lines: &[u8; 2560],
-    n: usize,
-    boxes: &[u8; 1056],
-    binds: &[u32; 32],
-    places: u32,
-    q: u8,
-) -> UseMap
-    requires { InForm n lines.now q }
-    ensures { (N : Net) (E : Estimate) → N.boxes ≡ boxes.now → E.binds ≡ binds.now → result.rights ≡ table 32 (uses N E places (tree (lines_view n lines.now) q)) }
+pub fn use_map(net: &Net, estimate: &Estimate, lines: &Lines, places: u32, q: u8) -> UseMap
+    requires { InForm lines.now.count lines.now.bytes q }
+    ensures { result.rights ≡ table 32 (uses (net_view net.now) (estimate_view estimate.now) places (tree (lines_of lines.now) q)) }
 {
-    let part = part_of(tables::action_at(lines, q));
-    match part {
+    match part_of(lines.action(q)) {
         Part::Nothing => UseMap::empty(),
         Part::Both(next, second) => {
-            let a = use_map(lines, n, boxes, binds, places, next);
-            let b = use_map(lines, n, boxes, binds, places, second);
+            let a = use_map(net, estimate, lines, places, next);
+            let b = use_map(net, estimate, lines, places, second);
             a.join(b)
         }
-        Part::Same(next) => use_map(lines, n, boxes, binds, places, next),
+        Part::Same(next) => use_map(net, estimate, lines, places, next),
         Part::Acts(next, right, target) => {
-            let a = use_map(lines, n, boxes, binds, places, next);
-            a.acting(right, target, places, binds)
+            let a = use_map(net, estimate, lines, places, next);
+            a.acting(right, target, places, estimate)
         }
         Part::Accepts(next, sandbox) => {
-            let a = use_map(lines, n, boxes, binds, places, next);
-            a.taking(boxes, sandbox, places)
+            let a = use_map(net, estimate, lines, places, next);
+            a.taking(net, sandbox, places)
         }
     }
 }

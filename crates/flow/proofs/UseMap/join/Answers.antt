@@ -1,17 +1,9 @@
-use mathlib.Core.Path.{◌≡◌, refl}
-use native.Mathlib.Omega.{arith}
+use borrow.Author.Rules.{rules}
+use lib.ListN.{get_or}
 use Rattle.sets.specs.Bits.{join}
-use Rattle.sets.proofs.Tables.{filled_none, filled_more, filled_all}
+use Rattle.sets.proofs.FromFn.{from_fn_table}
 use Rattle.flow.proofs.UseMap.join.Goals as goal
 
-pub loop-i-init : goal.loop-i-init
-loop-i-init c = (omega arith, filled_none 0 _ _)
-
-pub loop-i-preserved : goal.loop-i-preserved
-unfolding join
-loop-i-preserved c = (omega arith, filled_more c.loop-i.invariant.1 (omega arith) refl)
-
 pub returns : goal.returns
-returns c =
-    let e : c.loop-i.i ≡ 32 = omega arith in
-    filled_all (rw e at c.loop-i.invariant.1) refl
+unfolding join
+returns c = from_fn_table _ _ (λ s. join (get_or c.args.self.rights s 0) (get_or c.args.other.rights s 0)) 32 0 (λ i y q l e. search rules) c.from_fn-rights.ensures.items

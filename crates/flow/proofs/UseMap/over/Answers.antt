@@ -1,15 +1,7 @@
-use mathlib.Core.Path.{◌≡◌, refl}
-use native.Mathlib.Omega.{arith}
-use Rattle.sets.proofs.Tables.{filled_none, filled_more, filled_all}
+use borrow.Author.Rules.{rules}
+use Rattle.sets.specs.Bits.{mem, grant}
+use Rattle.sets.proofs.FromFn.{from_fn_table}
 use Rattle.flow.proofs.UseMap.over.Goals as goal
 
-pub loop-i-init : goal.loop-i-init
-loop-i-init c = (omega arith, filled_none 0 _ _)
-
-pub loop-i-preserved : goal.loop-i-preserved
-loop-i-preserved c = (omega arith, filled_more c.loop-i.invariant.1 (omega arith) c.granted.ensures)
-
 pub returns : goal.returns
-returns c =
-    let e : c.loop-i.i ≡ 32 = omega arith in
-    filled_all (rw e at c.loop-i.invariant.1) refl
+returns c = from_fn_table _ _ (λ s. grant (mem s c.args.set) c.args.right) 32 0 (λ i y q l e. search rules) c.from_fn-rights.ensures.items
