@@ -14,33 +14,19 @@ use lib.Pow.{shr-shr, shl_exact}
 use lib.Count.{count_trailing_zeros, under, ones, ones_in, ones_step}
 use lib.ListN.{length, get_or, take, drop, length-take, length-map, set, replicate, length-set, get_or-replicate}
 use lib.Seq.{ext_get_or, get_or-take, get_or-set_same, get_or-set_other}
-use Rattle.sets.specs.Lists.{◌&◌, either, imp, all, any, only, keep, same, below, table, table_from, fits, product}
+use Rattle.sets.specs.Lists.{◌&◌, either, imp, all, any, only, keep, ◌⧺◌, same, below, table, table_from, fits, product}
 use Rattle.sets.specs.Bits.{has, mem, sites, join}
 use Rattle.sets.proofs.Lists.{and_true, and_false, and_yes, and_no, eqb_suc, iff, and_i, and_l, and_r, imp_e, any_at, any_i, length_cat, only_long, keep_short, or_case, or_l, or_r, eqb_eq, ltb_lt, lt-ltb}
 use borrow.Author.Tests.{eq-eqb, ne_eqb, le-ltb}
 use Rattle.sets.proofs.Shared.{mem_single, none_high}
 use Rattle.sets.proofs.Bits.{digit, has_or, has_none, has_half, same_bits}
-use Rattle.sets.proofs.Tables.{Filled, below_in, in_below, table_in, table_all}
+use Rattle.sets.proofs.Tables.{Filled, get_or_table, below_in, in_below, table_in, table_all}
 use Rattle.klaim.specs.Analysis.{choices}
 use Rattle.klaim.specs.Invariant.{all_below, distinct}
 use Rattle.tables.specs.View.{row_at, rows_view}
 use Rattle.tables.proofs.LineTable.{get_d_map}
 use Rattle.matching.specs.Index.{in_column, in_rows, in_index, Indexed, Entered, Low}
 use Rattle.matching.proofs.Laws.{count_rule, keep_more, keep_none, Sets, sets_long_lem, fits_long, fits_end, fits_at, row_get, among_low}
-
--- a bit that the other number lacks
-less_low : (a b x y z : ℕ) → (x ≡ 0) ⊎ (x ≡ 1) → (y ≡ 0) ⊎ (y ≡ 1) → a % 2 ≡ x → b % 2 ≡ y → z % 2 ≡ x - min x y → mem 0 z ≡ (mem 0 a & not (mem 0 b))
-unfolding has ◌&◌
-less_low a b x y z (inl p) (inl q) e f g = rw (div-one, div-one, div-one, e, f, g, p, q)
-less_low a b x y z (inl p) (inr q) e f g = rw (div-one, div-one, div-one, e, f, g, p, q)
-less_low a b x y z (inr p) (inl q) e f g = rw (div-one, div-one, div-one, e, f, g, p, q)
-less_low a b x y z (inr p) (inr q) e f g = rw (div-one, div-one, div-one, e, f, g, p, q)
-
-pub mem_less : (p a b : ℕ) → mem p (a - bit_and a b) ≡ (mem p a & not (mem p b))
-mem_less zero a b = less_low a b (a % 2) (b % 2) (a - bit_and a b) (digit a) (digit b) refl refl (omega (arith, and_step a b, and_le_l (a / 2) (b / 2)))
-mem_less (suc p) a b =
-    let e : (a - bit_and a b) / 2 ≡ a / 2 - bit_and (a / 2) (b / 2) = omega (arith, and_step a b, and_le_l (a / 2) (b / 2)) in
-    sym (has_half p (a - bit_and a b)) ∙ ap (λ (x : ℕ). mem p x) e ∙ mem_less p (a / 2) (b / 2) ∙ ap₂ (λ (x y : Bool). x & not y) (has_half p a) (has_half p b)
 
 mem_low : (n d : ℕ) → n % 2 ≡ d → mem 0 n ≡ eqb d 1
 unfolding has
@@ -62,21 +48,20 @@ mem_other_site (suc k) (suc p) a b e h =
     let g : a / 2 + b / 2 + 1 ≡ 2 ^ k = omega arith in
     sym (has_half p b) ∙ mem_other_site k p (a / 2) (b / 2) g (omega arith) ∙ ap not (has_half p a)
 
--- number w of four
-module _ (op : ℕ → ℕ → ℕ) (test : Bool → Bool → Bool) (p : ℕ) (is : (a b : ℕ) → mem p (op a b) ≡ test (mem p a) (mem p b)) (a b c d e f g h : ℕ) where
-  pub four_by : (w : ℕ) → w < 4 → mem p (get_or (op a e ∷ op b f ∷ op c g ∷ op d h ∷ []) w 0) ≡ test (mem p (get_or (a ∷ b ∷ c ∷ d ∷ []) w 0)) (mem p (get_or (e ∷ f ∷ g ∷ h ∷ []) w 0))
-  four_by zero l = is a e
-  four_by (suc zero) l = is b f
-  four_by (suc (suc zero)) l = is c g
-  four_by (suc (suc (suc zero))) l = is d h
-  four_by (suc (suc (suc (suc w)))) l = absurd (omega arith)
+-- two sets put together, number by number
+pub rows_by : (op : ℕ → ℕ → ℕ) (test : Bool → Bool → Bool) (is : (a b p : ℕ) → mem p (op a b) ≡ test (mem p a) (mem p b)) (x y : List ℕ) {r : List ℕ} → r ≡ table 4 (λ w. op (get_or x w 0) (get_or y w 0)) → (i : ℕ) → i < 256 → in_rows r i ≡ test (in_rows x i) (in_rows y i)
+unfolding in_rows
+rows_by op test is x y e i h =
+    ap (λ (l : List ℕ). mem (i % 64) (get_or l (i / 64) 0)) e
+    ∙ ap (mem (i % 64)) (get_or_table 4 (λ w. op (get_or x w 0) (get_or y w 0)) (i / 64) 0 (omega arith))
+    ∙ is (get_or x (i / 64) 0) (get_or y (i / 64) 0) (i % 64)
 
-pub four_at : (t : List ℕ) (k w : ℕ) → w < 4 → get_or (get_or t k 0 ∷ get_or t (k + 1) 0 ∷ get_or t (k + 2) 0 ∷ get_or t (k + 3) 0 ∷ []) w 0 ≡ get_or t (k + w) 0
-four_at t k zero l = ap (λ (j : ℕ). get_or t j 0) (omega arith)
-four_at t k (suc zero) l = ap (λ (j : ℕ). get_or t j 0) (omega arith)
-four_at t k (suc (suc zero)) l = ap (λ (j : ℕ). get_or t j 0) (omega arith)
-four_at t k (suc (suc (suc zero))) l = ap (λ (j : ℕ). get_or t j 0) (omega arith)
-four_at t k (suc (suc (suc (suc w)))) l = absurd (omega arith)
+-- the set that an index has in a column
+pub rows_of : (t : List ℕ) (c v : ℕ) {r : List ℕ} → r ≡ table 4 (λ w. get_or t (128 * c + 4 * v + w) 0) → (i : ℕ) → i < 256 → in_rows r i ≡ in_index t c v i
+unfolding in_rows in_index
+rows_of t c v e i h =
+    ap (λ (l : List ℕ). mem (i % 64) (get_or l (i / 64) 0)) e
+    ∙ ap (mem (i % 64)) (get_or_table 4 (λ w. get_or t (128 * c + 4 * v + w) 0) (i / 64) 0 (omega arith))
 
 four_none : (p w : ℕ) → mem p (get_or (0 ∷ 0 ∷ 0 ∷ 0 ∷ []) w 0) ≡ false
 four_none p zero = has_none p
@@ -454,26 +439,31 @@ word_same x y w here a b h = same_bits (get_or x w 0) (get_or y w 0) (λ p. go p
     go p (yes l) = sym (in_word x w here p l) ∙ h (64 * w + p) (omega arith) ∙ in_word y w here p l
     go p (no l) = none_high 64 (get_or x w 0) p a (omega arith) ∙ sym (none_high 64 (get_or y w 0) p b (omega arith))
 
--- four numbers
-module _ (a b c d : ℕ) where
-  pub four_ones : a < 2 ^ 64 → b < 2 ^ 64 → c < 2 ^ 64 → d < 2 ^ 64 → ones a + ones b + (ones c + ones d) ≡ length (keep (in_rows (a ∷ b ∷ c ∷ d ∷ [])) (below 256))
-  unfolding below table
-  four_ones p q r s =
-      let f = in_rows (a ∷ b ∷ c ∷ d ∷ []) in
-      omega (
-        arith,
-        word_ones (a ∷ b ∷ c ∷ d ∷ []) 0 (omega arith) p,
-        word_ones (a ∷ b ∷ c ∷ d ∷ []) 1 (omega arith) q,
-        word_ones (a ∷ b ∷ c ∷ d ∷ []) 2 (omega arith) r,
-        word_ones (a ∷ b ∷ c ∷ d ∷ []) 3 (omega arith) s,
-        keep_split f 64 192 0,
-        keep_split f 64 128 64,
-        keep_split f 64 64 128,
-      )
+-- the rows of a set are as many as the bits of its numbers
+pub rows_ones : (r : List ℕ) → ((w : ℕ) → w < 4 → get_or r w 0 < 2 ^ 64) → ones (get_or r 0 0) + ones (get_or r 1 0) + (ones (get_or r 2 0) + ones (get_or r 3 0)) ≡ length (keep (in_rows r) (below 256))
+unfolding below table
+rows_ones r low =
+    let f = in_rows r in
+    omega (
+      arith,
+      word_ones r 0 (omega arith) (low 0 (omega arith)),
+      word_ones r 1 (omega arith) (low 1 (omega arith)),
+      word_ones r 2 (omega arith) (low 2 (omega arith)),
+      word_ones r 3 (omega arith) (low 3 (omega arith)),
+      keep_split f 64 192 0,
+      keep_split f 64 128 64,
+      keep_split f 64 64 128,
+    )
 
-  pub four_nothing : a ≡ 0 → b ≡ 0 → c ≡ 0 → d ≡ 0 → false ≡ any (in_rows (a ∷ b ∷ c ∷ d ∷ [])) (below 256)
-  four_nothing p q r s =
-      rw (p, q, r, s) (sym (untrue (λ t. let e = any_at (in_rows (0 ∷ 0 ∷ 0 ∷ 0 ∷ [])) (below 256) t in false≢true (sym (no_rows e.0) ∙ e.2))))
+-- a list has an element that passes where one is kept
+pub any_kept : {A : Type 0} (f : A → Bool) (xs : List A) → not (eqb (length (keep f xs)) 0) ≡ any f xs
+unfolding any keep only ◌⧺◌ either
+any_kept f [] = refl
+any_kept f (x ∷ xs) = go (f x) (any_kept f xs)
+  where
+    go : (b : Bool) → not (eqb (length (keep f xs)) 0) ≡ any f xs → not (eqb (length (only b x ⧺ keep f xs)) 0) ≡ either b (any f xs)
+    go true e = ap not (ne_eqb (suc (length (keep f xs))) 0 (λ q. omega arith)) ∙ sym (or_l true (any f xs) refl)
+    go false e = e
 
 -- some element of a table passes
 from_any : {A : Type 0} (g : A → Bool) (n i : ℕ) (h : ℕ → A) → any g (table_from n i h) ≡ true → (k : ℕ) × (k < i + n) × (g (h k) ≡ true)
@@ -549,21 +539,9 @@ rows_all {A} x y n f g h few ex ey {b} to from = iff (λ t. every (to t)) (λ t.
     alike : all (λ a. imp (f a) (g a)) (table n h) ≡ true → (i : ℕ) → i < 256 → in_rows x i ≡ in_rows y i
     alike t i l = iff (λ q. let p = sym (ex i l) ∙ q in ey i l ∙ and_i q (imp_e _ _ (table_all (λ a. imp (f a) (g a)) n h t i (ltb_lt i n (and_l _ _ p))) (and_r _ _ p))) (λ q. and_l _ _ (sym (ey i l) ∙ q))
 
--- two sets differ in number w
-pub word_differs : (x y : List ℕ) (w : ℕ) → w < 4 → get_or x w 0 < 2 ^ 64 → get_or y w 0 < 2 ^ 64 → (get_or x w 0 ≡ get_or y w 0 → ⊥) → (false ≡ true → (i : ℕ) → i < 256 → in_rows x i ≡ in_rows y i) × (((i : ℕ) → i < 256 → in_rows x i ≡ in_rows y i) → false ≡ true)
-word_differs x y w here a b h = (λ t. absurd (false≢true t), λ e. absurd (h (word_same x y w here a b e)))
-
--- or they are the same
-pub words_same : (a b c d e f g h : ℕ) → a ≡ e → b ≡ f → c ≡ g → d < 2 ^ 64 → h < 2 ^ 64 → (eqb d h ≡ true → (i : ℕ) → i < 256 → in_rows (a ∷ b ∷ c ∷ d ∷ []) i ≡ in_rows (e ∷ f ∷ g ∷ h ∷ []) i) × (((i : ℕ) → i < 256 → in_rows (a ∷ b ∷ c ∷ d ∷ []) i ≡ in_rows (e ∷ f ∷ g ∷ h ∷ []) i) → eqb d h ≡ true)
-words_same a b c d e f g h p q r k l = (λ t i z. let s : d ≡ h = eqb_eq t in rw (p, q, r, s), λ z. eq-eqb _ _ (word_same (a ∷ b ∷ c ∷ d ∷ []) (e ∷ f ∷ g ∷ h ∷ []) 3 (omega arith) k l z))
-
--- the last number decides
-pub last_word : (a b c d : ℕ) → a ≡ 0 → b ≡ 0 → c ≡ 0 → d < 2 ^ 64 → not (eqb d 0) ≡ any (in_rows (a ∷ b ∷ c ∷ d ∷ [])) (below 256)
-last_word a b c d p q r h = go (ℕ_discrete d 0)
-  where
-    go : Dec (d ≡ 0) → not (eqb d 0) ≡ any (in_rows (a ∷ b ∷ c ∷ d ∷ [])) (below 256)
-    go (yes e) = ap not (eq-eqb _ _ e) ∙ four_nothing a b c d p q r e
-    go (no e) = ap not (ne_eqb d 0 e) ∙ sym (some_word (a ∷ b ∷ c ∷ d ∷ []) 3 (omega arith) e h)
+-- two sets are equal where they have the same rows
+pub words_same : (x y : List ℕ) → length x ≡ 4 → length y ≡ 4 → ((w : ℕ) → w < 4 → get_or x w 0 < 2 ^ 64) → ((w : ℕ) → w < 4 → get_or y w 0 < 2 ^ 64) → ((i : ℕ) → i < 256 → in_rows x i ≡ in_rows y i) → x ≡ y
+words_same x y p q a b h = ext_get_or 0 x y (p ∙ sym q) (λ w l. let k : w < 4 = omega arith in word_same x y w k (a w k) (b w k) h)
 
 -- the rows with as many sites as there are sets
 pub chosen_is : (xss : List (List ℕ)) (row : List ℕ) (m : ℕ) → length xss ≡ m → (b : Bool) → ((b & eqb (length row) m) & fits xss row) ≡ (b & fits xss row)

@@ -5,15 +5,10 @@ use Rattle.sets.specs.Lists.{◌&◌, either, all}
 use Rattle.sets.specs.Bits.{mem}
 use Rattle.klaim.specs.Invariant.{all_below}
 use Rattle.tables.specs.View.{row_at, rows_view}
-use Rattle.matching.specs.declared.RowSet.{RowSet}
 
 -- what row i has in column c: in column 0 how many sites, in column c its c-th site
 unfoldable pub in_column : List ℕ → ℕ → ℕ → ℕ
 in_column bs c i = cond (eqb c 0) (length (row_at bs i)) (get_or bs (6 * i + c) 0 % 32)
-
--- the four numbers of a set of rows
-unfoldable pub words : RowSet → List ℕ
-words r = r.a ∷ r.b ∷ r.c ∷ r.d ∷ []
 
 -- whether a set of rows, as numbers of 64 bits, has row i
 unfoldable pub in_rows : List ℕ → ℕ → Bool

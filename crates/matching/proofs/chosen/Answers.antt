@@ -7,7 +7,7 @@ use lib.ListN.{length}
 use Rattle.sets.specs.Lists.{◌&◌, fits}
 use Rattle.sets.proofs.Lists.{and_l, and_r, eqb_eq, ltb_lt}
 use Rattle.tables.specs.View.{row_at}
-use Rattle.matching.specs.Index.{words, in_rows}
+use Rattle.matching.specs.Index.{in_rows}
 use Rattle.matching.proofs.Laws.{Sets, sets_long_lem}
 use Rattle.matching.proofs.Index.{key_first, chosen_is}
 use borrow.Author.Rules.{rules}
@@ -17,7 +17,7 @@ pub returns : goal.returns
 returns c =
     let five : length c.args.reaches ≡ 5 = search rules in
     λ n bs I L i h.
-    let had : (k : ℕ) → k < 256 → in_rows (words c.rows_with-had.result) k ≡ (ltb k n & eqb (length (row_at bs k)) c.args.m) = λ k l. c.rows_with-had.ensures k l ∙ I 0 c.args.m k (omega arith) (omega (arith, c.requires.0)) l ∙ ap (λ (x : ℕ). ltb k n & eqb x c.args.m) (sym (key_first bs 0 k refl)) in
+    let had : (k : ℕ) → k < 256 → in_rows c.rows_with-had.result.words k ≡ (ltb k n & eqb (length (row_at bs k)) c.args.m) = λ k l. c.rows_with-had.ensures k l ∙ I 0 c.args.m k (omega arith) (omega (arith, c.requires)) l ∙ ap (λ (x : ℕ). ltb k n & eqb x c.args.m) (sym (key_first bs 0 k refl)) in
     c.narrowed.ensures n bs I L (λ k l t. let q = sym (had k l) ∙ t in (ltb_lt k n (and_l _ _ q), eqb_eq (and_r _ _ q))) i h
     ∙ ap (λ (b : Bool). b & fits (Sets c.args.reaches c.args.m) (row_at bs i)) (had i h)
-    ∙ chosen_is (Sets c.args.reaches c.args.m) (row_at bs i) c.args.m (sets_long_lem c.args.reaches c.args.m c.requires.0 five) (ltb i n)
+    ∙ chosen_is (Sets c.args.reaches c.args.m) (row_at bs i) c.args.m (sets_long_lem c.args.reaches c.args.m c.requires five) (ltb i n)

@@ -1,13 +1,14 @@
-use Prim.Native.Nat.{◌/◌, ◌%◌}
+use borrow.Author.Rules.{rules}
 use native.Mathlib.Omega.{arith}
 use lib.Bits.{bit_and}
+use lib.ListN.{get_or}
 use Rattle.sets.specs.Lists.{◌&◌}
 use Rattle.sets.specs.Bits.{meet}
 use Rattle.sets.proofs.Bits.{has_and}
-use Rattle.matching.specs.Index.{words, in_rows}
-use Rattle.matching.proofs.Index.{four_by}
+use Rattle.sets.proofs.FromFn.{from_fn_table}
+use Rattle.matching.proofs.Index.{rows_by}
 use Rattle.matching.proofs.in_both.Goals as goal
 
 pub returns : goal.returns
-unfolding in_rows words meet
-returns c = λ i h. four_by bit_and ◌&◌ (i % 64) (λ a b. has_and a b (i % 64)) _ _ _ _ _ _ _ _ (i / 64) (omega arith)
+unfolding meet
+returns c = rows_by bit_and ◌&◌ has_and c.args.x.words c.args.y.words (from_fn_table _ _ (λ w. bit_and (get_or c.args.x.words w 0) (get_or c.args.y.words w 0)) 4 0 (λ i y q l e. search rules) c.from_fn.ensures.items)

@@ -1,13 +1,13 @@
-use Prim.Native.Nat.{◌/◌, ◌%◌}
-use native.Mathlib.Omega.{arith}
+use borrow.Author.Rules.{rules}
 use lib.Bits.{bit_or}
+use lib.ListN.{get_or}
 use Rattle.sets.specs.Lists.{either}
 use Rattle.sets.specs.Bits.{join}
 use Rattle.sets.proofs.Bits.{has_or}
-use Rattle.matching.specs.Index.{words, in_rows}
-use Rattle.matching.proofs.Index.{four_by}
+use Rattle.sets.proofs.FromFn.{from_fn_table}
+use Rattle.matching.proofs.Index.{rows_by}
 use Rattle.matching.proofs.in_either.Goals as goal
 
 pub returns : goal.returns
-unfolding in_rows words join
-returns c = λ i h. four_by bit_or either (i % 64) (λ a b. has_or a b (i % 64)) _ _ _ _ _ _ _ _ (i / 64) (omega arith)
+unfolding join
+returns c = rows_by bit_or either has_or c.args.x.words c.args.y.words (from_fn_table _ _ (λ w. bit_or (get_or c.args.x.words w 0) (get_or c.args.y.words w 0)) 4 0 (λ i y q l e. search rules) c.from_fn.ensures.items)

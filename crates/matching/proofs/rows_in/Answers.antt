@@ -3,12 +3,11 @@ use mathlib.Core.Path.{ap₂, ◌∙◌}
 use Prim.Native.Nat.{◌<◌}
 use native.Mathlib.Omega.{arith}
 use Rattle.sets.specs.Lists.{either}
-use Rattle.matching.specs.Index.{in_column, words}
+use Rattle.matching.specs.Index.{in_column}
 use Rattle.matching.proofs.Index.{no_rows, turn_none, turn, turn_end, next_low, rest_less, rest_within}
 use Rattle.matching.proofs.rows_in.Goals as goal
 
 pub loop-rest-init : goal.loop-rest-init
-unfolding words
 loop-rest-init c =
     let low : c.args.set < 4294967296 = search rules in
     (low, λ u t. t, λ n bs I i h. no_rows i ∙ turn_none n (in_column bs c.args.c i) i c.args.set)
@@ -17,7 +16,7 @@ pub overflow_cast-v : goal.overflow_cast-v
 overflow_cast-v c = let low = next_low c.args.set c.loop-rest.rest c.loop-rest-test.true c.loop-rest.invariant.0 c.loop-rest.invariant.1 in search rules
 
 pub rows_with-requires : goal.rows_with-requires
-rows_with-requires c = (c.requires.0, next_low c.args.set c.loop-rest.rest c.loop-rest-test.true c.loop-rest.invariant.0 c.loop-rest.invariant.1, c.requires.1)
+rows_with-requires c = (c.requires, next_low c.args.set c.loop-rest.rest c.loop-rest-test.true c.loop-rest.invariant.0 c.loop-rest.invariant.1)
 
 pub loop-rest-smaller : goal.loop-rest-smaller
 loop-rest-smaller c =
@@ -33,7 +32,7 @@ loop-rest-preserved c =
       rest_within c.args.set at.rest some at.invariant.0 at.invariant.1,
       λ n bs I i h.
           c.in_either-r.ensures i h
-          ∙ ap₂ either (at.invariant.2 n bs I i h) (c.rows_with.ensures i h ∙ I c.args.c _ i c.requires.0 (next_low c.args.set c.loop-rest.rest c.loop-rest-test.true c.loop-rest.invariant.0 c.loop-rest.invariant.1) h)
+          ∙ ap₂ either (at.invariant.2 n bs I i h) (c.rows_with.ensures i h ∙ I c.args.c _ i c.requires (next_low c.args.set c.loop-rest.rest c.loop-rest-test.true c.loop-rest.invariant.0 c.loop-rest.invariant.1) h)
           ∙ turn c.args.set at.rest some at.invariant.0 at.invariant.1 n (in_column bs c.args.c i) i,
     )
 
