@@ -15,28 +15,6 @@ use Rattle.klaim.specs.declared.Loc.{Loc}
 use Rattle.klaim.specs.Net.{Net, Estimate, box_at, holds}
 use Rattle.klaim.specs.Analysis.{reach, reached, eval_rule}
 
--- a test of the numbers from i upwards
-unfoldable pub all_from : (ℕ → Bool) → ℕ → Bool
-all_from f i = all f (table_from (32 - i) i (λ n. n))
-
-pub all_end : (f : ℕ → Bool) → all_from f 32 ≡ true
-unfolding all_from all table_from
-all_end f = refl
-
-pub all_down : (f : ℕ → Bool) (i : ℕ) → 0 < i → i ≤ 32 → all_from f (i - 1) ≡ (f (i - 1) & all_from f i)
-unfolding all_from all table_from
-all_down f i p q = ap (λ (n : ℕ). all f (table_from n (i - 1) (λ n. n))) left ∙ ap (λ (k : ℕ). f (i - 1) & all f (table_from (32 - i) k (λ n. n))) next
-  where
-    left : 32 - (i - 1) ≡ suc (32 - i)
-    left = omega arith
-
-    next : suc (i - 1) ≡ i
-    next = omega arith
-
-pub all_below_lem : (f : ℕ → Bool) → all_from f 0 ≡ all f (below 32)
-unfolding all_from below table
-all_below_lem f = refl
-
 all_only : {A : Type 0} (f : A → Bool) (b : Bool) (x : A) (ys : List A) → (imp b (f x) & all f ys) ≡ all f (only b x ⧺ ys)
 unfolding imp only ◌⧺◌ all ◌&◌
 all_only f true x ys = refl
@@ -47,9 +25,9 @@ unfolding all keep
 all_keep p f [] = refl
 all_keep p f (x ∷ xs) = ap (λ (b : Bool). imp (p x) (f x) & b) (all_keep p f xs) ∙ all_only f (p x) x (keep p xs)
 
-pub all_sites : (f : ℕ → Bool) (m : ℕ) → all_from (λ l. imp (mem l m) (f l)) 0 ≡ all f (sites m)
+pub all_sites : (f : ℕ → Bool) (m : ℕ) → all (λ l. imp (mem l m) (f l)) (below 32) ≡ all f (sites m)
 unfolding sites
-all_sites f m = all_below_lem _ ∙ all_keep (λ l. mem l m) f (below 32)
+all_sites f m = all_keep (λ l. mem l m) f (below 32)
 
 -- the eval rule, by what some site of the reach needs
 module _ (N : Net) (E : Estimate) (P : ℕ) (g : Loc) (k : ℕ) where
@@ -71,11 +49,6 @@ module _ (N : Net) (E : Estimate) (P : ℕ) (g : Loc) (k : ℕ) where
       (λ l _. all_same (λ t. within (get_or need t 0) (holds E l t)) (λ t. within (joins (λ l'. box_at N k l' t) (sites m)) (holds E l t)) (below 32) (λ t i. ap (λ (x : ℕ). within x (holds E l t)) (ap (λ (xs : List ℕ). get_or xs t 0) n ∙ get_or_table 32 (λ t. joins (λ l. box_at N k l t) (sites m)) t 0 (in_below 32 t i))))
       ∙ ap (λ (m : ℕ). all (λ l. all (λ t. within (joins (λ l'. box_at N k l' t) (sites m)) (holds E l t)) (below 32)) (sites m)) e
       ∙ eval_rule_lem
-
--- one site's E rights
-pub hold_at : (E : Estimate) {hs : List ℕ} (l t : ℕ) → E.hold ≡ hs → get_or hs (32 * l + t) 0 ≡ holds E l t
-unfolding holds
-hold_at E l t e = rw e
 
 pub held_yes : (b x : Bool) → b ≡ true → x ≡ imp b x
 unfolding imp

@@ -21,8 +21,7 @@ use Rattle.tables.specs.View.{loc_of, slot_of, LowSlot}
 use Rattle.matching.specs.Index.{Low}
 use Rattle.matching.proofs.Laws.{among_low}
 use Rattle.matching.proofs.Index.{every_site}
-use Rattle.rules.specs.Masks.{any_site, wanted, allowed, field_set, Sized}
-use Rattle.rules.specs.declared.Ask.TheVariants.{Reach, Wanted, Allowed}
+use Rattle.rules.specs.Masks.{any_site, wanted, allowed, Sized}
 
 -- distinct rows of sites are rows of sites
 pub sized_low : {n : ℕ} {bs : List ℕ} → Sized n bs → Low n bs
@@ -43,12 +42,11 @@ sets_more F x fs r j v four five low e w =
     after = omega arith
 
 -- out
-reach_sets : (E : Estimate) (P : ℕ) (cs : List ℕ) → map sites (map (field_set E P Reach) cs) ≡ map (reached E P) (map loc_of cs)
-unfolding field_set
+reach_sets : (E : Estimate) (P : ℕ) (cs : List ℕ) → map sites (map (λ c. reach E P (loc_of c)) cs) ≡ map (reached E P) (map loc_of cs)
 reach_sets E P [] = refl
 reach_sets E P (c ∷ cs) = ap (λ (l : List (List ℕ)). sites (reach E P (loc_of c)) ∷ l) (reach_sets E P cs)
 
-pub out_law : (E : Estimate) (P : ℕ) (g : Loc) (cs ms : List ℕ) (rows : List (List ℕ)) {x : ℕ} → E.stand ≡ rows → x ≡ reach E P g → ms ≡ x ∷ map (field_set E P Reach) cs → choices (map sites ms) (λ t. any (same t) rows) ≡ out_rule E P g (map loc_of cs)
+pub out_law : (E : Estimate) (P : ℕ) (g : Loc) (cs ms : List ℕ) (rows : List (List ℕ)) {x : ℕ} → E.stand ≡ rows → x ≡ reach E P g → ms ≡ x ∷ map (λ c. reach E P (loc_of c)) cs → choices (map sites ms) (λ t. any (same t) rows) ≡ out_rule E P g (map loc_of cs)
 unfolding out_rule stands
 out_law E P g cs ms rows e x m =
     ap₂ (λ (l : List ℕ) (r : List (List ℕ)). choices (map sites l) (λ t. any (same t) r)) m (sym e)
@@ -90,8 +88,8 @@ module _ (E : Estimate) (P : ℕ) where
   slot_sets F [] = refl
   slot_sets F (c ∷ cs) = ap (λ (l : List ℕ). F (slot_of c) ∷ l) (slot_sets F cs)
 
-  pub get_law : (g : Loc) (cs want allow : List ℕ) (rows : List (List ℕ)) {x : ℕ} → E.stand ≡ rows → all (all_below 32) rows ≡ true → x ≡ reach E P g → want ≡ x ∷ map (field_set E P Wanted) cs → allow ≡ any_site ∷ map (field_set E P Allowed) cs → all (λ row. imp (fits (map sites want) row) (fits (map sites allow) row)) rows ≡ get_rule E P g (map slot_of cs)
-  unfolding get_rule wanted allowed field_set
+  pub get_law : (g : Loc) (cs want allow : List ℕ) (rows : List (List ℕ)) {x : ℕ} → E.stand ≡ rows → all (all_below 32) rows ≡ true → x ≡ reach E P g → want ≡ x ∷ map (λ c. wanted E P (slot_of c)) cs → allow ≡ any_site ∷ map (λ c. allowed E (slot_of c)) cs → all (λ row. imp (fits (map sites want) row) (fits (map sites allow) row)) rows ≡ get_rule E P g (map slot_of cs)
+  unfolding get_rule wanted allowed
   get_law g cs want allow rows e low x w a =
       all_same _ _ rows (λ row i. sym (imp_same
       (matches_fits (Value g ∷ map slot_of cs) row (all_at (all_below 32) i low) ∙ ap (λ (l : List ℕ). fits (map sites l) row) wants)
@@ -125,9 +123,9 @@ module _ {s : Slot} where
   unfolding allowed
   allowed_value E e = rw e
 
-  pub allowed_bind : (E : Estimate) (bs : List ℕ) → E.binds ≡ bs → {u : Var} → s ≡ Bind u → get_or bs u.0 0 ≡ allowed E s
-  unfolding allowed may
-  allowed_bind E bs b e = rw (e, b)
+  pub allowed_bind : (E : Estimate) {u : Var} → s ≡ Bind u → may E u.0 ≡ allowed E s
+  unfolding allowed
+  allowed_bind E e = rw e
 
   pub allowed_wildcard : (E : Estimate) → s ≡ Wildcard → any_site ≡ allowed E s
   unfolding allowed

@@ -7,10 +7,8 @@ use Rattle.klaim.specs.declared.Slot.TheVariants.{Value, Bind, Wildcard}
 use Rattle.klaim.specs.Net.{Estimate, may}
 use Rattle.klaim.specs.Analysis.{reach}
 use Rattle.klaim.specs.Invariant.{all_below, distinct}
-use Rattle.tables.specs.View.{rows_view, loc_of, slot_of}
+use Rattle.tables.specs.View.{rows_view}
 use Rattle.matching.specs.Index.{Indexed}
-use Rattle.rules.specs.declared.Ask.{Ask}
-use Rattle.rules.specs.declared.Ask.TheVariants.{Reach, Wanted, Allowed}
 
 -- all sites
 abbrev pub any_site : ℕ
@@ -27,12 +25,6 @@ unfoldable pub allowed : Estimate → Slot → ℕ
 allowed E (Value x) = any_site
 allowed E (Bind u) = may E u.0
 allowed E Wildcard = any_site
-
--- the set for a field, given by its byte, by what is asked of it
-unfoldable pub field_set : Estimate → ℕ → Ask → ℕ → ℕ
-field_set E P Reach c = reach E P (loc_of c)
-field_set E P Wanted c = wanted E P (slot_of c)
-field_set E P Allowed c = allowed E (slot_of c)
 
 -- a table of A rows as the reader leaves it: at most 256, of sites, no two alike
 pub record Sized (n : ℕ) (bs : List ℕ) : Type 0 where

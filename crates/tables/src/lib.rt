@@ -1,7 +1,7 @@
 //! A net and an estimate as tables of numbers, and a process line taken out of its table.
 #![tactic(auto)]
 
-ghost use Rattle.std.specs.Prelude.{◌≡◌, List, ℕ, ◌<◌, ◌≤◌, min, get_or, take};
+ghost use Rattle.std.specs.Prelude.{◌≡◌, List, ℕ, ◌<◌, ◌≤◌, min, length, get_or, take};
 ghost use Rattle.klaim.specs.Net.{home, box, box_self, may, holds};
 ghost use Rattle.klaim.specs.Process.{line_at};
 ghost use Rattle.klaim.specs.State.{is_nil};
@@ -290,7 +290,8 @@ impl Lines {
     // Field j of line q, as a byte.
     pub fn field(&self, q: u8, j: u8) -> u8
         requires { j < 4 }
-        ensures { result ≡ get_or (field_bytes self.now.bytes q) j 0 }
+        ensures value { result ≡ get_or (field_bytes self.now.bytes q) j 0 }
+        ensures room { length (field_bytes self.now.bytes q) ≡ 4 }
     {
         field_at(&self.bytes, q, j)
     }

@@ -3,7 +3,7 @@ use Rattle.rules.proofs.Laws.{held_yes, held_no}
 use Rattle.rules.proofs.held.Goals as goal
 
 pub returns-then-has_site : goal.returns-then-has_site
-returns-then-has_site c = λ E e. c.row_holds.ensures E e ∙ held_yes _ _ (sym c.has_site.ensures ∙ c.if-has_site.true)
+returns-then-has_site c = c.row_holds.ensures ∙ held_yes _ _ (sym c.has_site.ensures ∙ c.if-has_site.true)
 
 pub returns : goal.returns
-returns c = λ E e. held_no _ _ (sym c.has_site.ensures ∙ c.if-has_site.false)
+returns c = held_no _ _ (sym c.has_site.ensures ∙ c.if-has_site.false)
