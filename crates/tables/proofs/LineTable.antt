@@ -1,6 +1,7 @@
 -- Laws of the process lines in their table: the line of a number, its process, its children.
 -- Assumes nothing.
 use mathlib.Core.Path.{◌≡◌, refl, sym, ap, subst, ◌∙◌}
+use mathlib.Core.Logic.{◌⊎◌, inl, inr}
 use mathlib.Core.Bool.{Bool, true, false, cond}
 use mathlib.Core.List.{List, [], ◌∷◌, map}
 use Prim.Native.Nat.{ℕ, zero, suc, ◌+◌, ◌*◌, ◌%◌, ◌<◌, ◌≤◌, min}
@@ -148,3 +149,13 @@ next {n} {bs} {q} w {r} d e = subst (Next n bs q) e (next_of n bs q (field_bytes
           greater = child_greater (lines_view n bs) q w.in_order c j;
           form = record { in_order = w.in_order; present = omega (arith, child_line (lines_view n bs) q w.in_order c j, length_view n bs) };
         }
+
+-- of the lines that an arm for two kinds meets: in and read; rep and accept
+module _ {n : ℕ} {bs : List ℕ} {q : ℕ} (w : InForm n bs q) {r : Action} (d : Decoded bs q r) {a : ℕ} where
+  pub next_of_get : {g : Loc} {k : ℕ} → (r ≡ In a g k) ⊎ (r ≡ Read a g k) → Child n bs q a × LowLoc g × (k ≤ 4)
+  next_of_get (inl e) = next w d e
+  next_of_get (inr e) = next w d e
+
+  pub next_of_same : (r ≡ Rep a) ⊎ ((k : ℕ) × (r ≡ Accept a k)) → Child n bs q a
+  next_of_same (inl e) = (next w d e).0
+  next_of_same (inr e) = (next w d e.1).0
