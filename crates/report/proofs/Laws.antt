@@ -27,36 +27,13 @@ use Rattle.report.specs.declared.Evals.TheVariants.{Nothing, Both, Next, Sends}
 use Rattle.report.specs.Evals.{evals_of}
 use Rattle.sets.proofs.Joins.{join_assoc}
 
--- a test that fails below n
-pub not_all : (f : ℕ → Bool) (n k : ℕ) → k < n → f k ≡ false → all f (below n) ≡ false
-not_all f n k h e = go (all f (below n)) (λ t. all_at f (below_in n k h) t)
-  where
-    go : (b : Bool) → (b ≡ true → f k ≡ true) → b ≡ false
-    go true g = absurd (false≢true (sym e ∙ g refl))
-    go false g = refl
-
--- one more byte joined with its part
-pub filled_join : (g : ℕ → ℕ) {l₀ l : List ℕ} {i v : ℕ} → Filled 0 (λ k. join (get_or l₀ k 0) (g k)) l₀ l i → i < length l₀ → v ≡ g i → Filled 0 (λ k. join (get_or l₀ k 0) (g k)) l₀ (set l i (join (get_or l i 0) v)) (i + 1)
-filled_join g {i = i} F h e = filled_more F h (ap₂ join (F.rest i (omega arith)) e)
-
 -- policies out of their tables
-pub home_at : (N : Net) {hs : List ℕ} (s t : ℕ) → N.homes ≡ hs → get_or hs (32 * s + t) 0 ≡ home N s t
-unfolding home
-home_at N s t e = rw e
-
-pub hold_at : (N : Net) (E : Estimate) {hs es : List ℕ} (i : ℕ) → N.homes ≡ hs → E.hold ≡ es → less (get_or es i 0) (get_or hs i 0) ≡ hold_adds N E (i / 32) (i % 32)
+pub hold_at : (N : Net) (E : Estimate) (i : ℕ) → less (get_or E.hold i 0) (get_or N.homes i 0) ≡ hold_adds N E (i / 32) (i % 32)
 unfolding hold_adds holds home
-hold_at N E {hs} {es} i e h = rw (e, h) (ap₂ less (ap (λ (k : ℕ). get_or es k 0) same) (ap (λ (k : ℕ). get_or hs k 0) same))
+hold_at N E i = ap₂ less (ap (λ (k : ℕ). get_or E.hold k 0) same) (ap (λ (k : ℕ). get_or N.homes k 0) same)
   where
     same : i ≡ 32 * (i / 32) + i % 32
     same = omega arith
-
--- a net and an estimate with these tables
-abbrev pub some_net : List ℕ → List ℕ → List Line → Net
-some_net hs bs ls = record { size = 0; homes = hs; boxes = bs; tuples = []; roots = []; lines = ls }
-
-abbrev pub some_estimate : List ℕ → List ℕ → Estimate
-some_estimate us es = record { binds = us; stand = []; hold = es }
 
 -- nothing added; one part after another
 pub add_none : (a : List ℕ) → length a ≡ 1024 → a ≡ table 1024 (λ i. join (get_or a i 0) 0)

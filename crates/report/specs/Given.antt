@@ -1,27 +1,22 @@
--- What the tables handed to `report` stand for, and what they must meet.
+-- What roots and lines must meet for the report, and one row of it.
 -- Assumes nothing.
 use Rattle.std.specs.Prelude.{◌≡◌, true, List, ℕ, ◌+◌, ◌*◌, ◌<◌, ◌≤◌, length, get_or}
 use Rattle.sets.specs.Bits.{mem, join, grant}
 use Rattle.klaim.specs.Process.{ordered}
-use Rattle.klaim.specs.Net.{Root, Net, Estimate}
-use Rattle.tables.specs.View.{lines_view}
+use Rattle.klaim.specs.Net.{Root}
+use Rattle.tables.specs.declared.Lines.{Lines}
+use Rattle.tables.specs.declared.Roots.{Roots}
+use Rattle.tables.specs.View.{lines_of, root_at}
 
 abbrev pub a_root : ℕ → ℕ → Root
 a_root s q = record { site = s; line = q }
 
--- m roots over n lines: each at a site, on a line
-pub record Rooted (n : ℕ) (bs : List ℕ) (m : ℕ) (rs : List ℕ) : Type 0 where
-  pub few : m ≤ 64
-  pub in_order : ordered (lines_view n bs) ≡ true
-  pub placed : (i : ℕ) → i < m → get_or rs (2 * i) 0 < 32
-  pub present : (i : ℕ) → i < m → get_or rs (2 * i + 1) 0 < n
-
--- a net and an estimate have these tables
-pub record Given (N : Net) (E : Estimate) (homes boxes : List ℕ) (n : ℕ) (lines : List ℕ) (binds : List ℕ) : Type 0 where
-  pub homes_is : N.homes ≡ homes
-  pub boxes_is : N.boxes ≡ boxes
-  pub lines_is : N.lines ≡ lines_view n lines
-  pub binds_is : E.binds ≡ binds
+-- roots over lines: each at a site, on a line
+pub record Rooted (ls : Lines) (rs : Roots) : Type 0 where
+  pub few : rs.count ≤ 64
+  pub in_order : ordered (lines_of ls) ≡ true
+  pub placed : (i : ℕ) → i < rs.count → (root_at rs.bytes i).site < 32
+  pub present : (i : ℕ) → i < rs.count → (root_at rs.bytes i).line < ls.count
 
 -- a subject's row of the report with the rights added, if the subject is in the set; every other byte kept
 pub record RowAdded (set subject : ℕ) (rights old new : List ℕ) : Type 0 where

@@ -1,19 +1,20 @@
 //! The report, and whether a process adds nothing to one.
 #![tactic(auto)]
 
-ghost use Rattle.std.specs.Prelude.{◌≡◌, ◌<◌, ◌/◌, ◌%◌, eqb, length, get_or};
+ghost use Rattle.std.specs.Prelude.{◌≡◌, ◌<◌, ◌/◌, ◌%◌, eqb, get_or};
 ghost use Rattle.sets.specs.Lists.{table, all, below};
 ghost use Rattle.sets.specs.Bits.{mem, join, grant, less as without};
 ghost use Rattle.klaim.specs.Process.{tree};
-ghost use Rattle.klaim.specs.Net.{Net, Estimate, home};
+ghost use Rattle.klaim.specs.Net.{home};
 ghost use Rattle.klaim.specs.Report.{sure, eval_adds, adds, adds_nothing, root_adds, hold_adds, report as report_of};
-ghost use Rattle.tables.specs.View.{lines_view, roots_view, InForm};
+ghost use Rattle.tables.specs.View.{lines_of, net_view, estimate_view, InForm};
 ghost use Rattle.report.specs.Evals.{evals_of, nowhere};
-ghost use Rattle.report.specs.Given.{a_root, Rooted, Given, RowAdded};
+ghost use Rattle.report.specs.Given.{a_root, Rooted, RowAdded};
 
 use flow::UseMap;
 use klaim::Loc;
-use tables::Action;
+use std::array;
+use tables::{Action, Estimate, Lines, Net};
 
 // What a has and b lacks.
 fn less(a: u8, b: u8) -> u8
@@ -23,89 +24,57 @@ fn less(a: u8, b: u8) -> u8
 }
 
 // A use map less the rights that sandbox k has evaluated at every site of a reach.
-fn less_sure(m: UseMap, boxes: &[u8; 1056], k: u8, set: u32) -> UseMap
+fn less_sure(m: UseMap, net: &Net, k: u8, set: u32) -> UseMap
     requires { k < 32 }
-    ensures { (N : Net) → N.boxes ≡ boxes.now → result.rights ≡ table 32 (λ t. without (get_or m.rights t 0) (sure N k set t)) }
+    ensures { result.rights ≡ table 32 (λ t. without (get_or m.rights t 0) (sure (net_view net.now) k set t)) }
 {
-    let old = m.rights;
-    let mut r = [0u8; UseMap::SITES];
-    let mut i: usize = 0;
-    while i < UseMap::SITES {
-        r[i] = less(old[i], flow::box_sure(boxes, k, set, i as u8));
-        i += 1;
-    }
-    UseMap { rights: r }
+    let rights = array::from_fn(|t| less(m.rights[t], flow::box_sure(net, k, set, t as u8)));
+    UseMap { rights }
 }
 
 // A use map less the home policy of a site.
-fn less_home(m: UseMap, homes: &[u8; 1024], site: u8) -> UseMap
+fn less_home(m: UseMap, net: &Net, site: u8) -> UseMap
     requires { site < 32 }
-    ensures { (N : Net) → N.homes ≡ homes.now → result.rights ≡ table 32 (λ t. without (get_or m.rights t 0) (home N site t)) }
+    ensures { result.rights ≡ table 32 (λ t. without (get_or m.rights t 0) (home (net_view net.now) site t)) }
 {
-    let old = m.rights;
-    let mut r = [0u8; UseMap::SITES];
-    let mut i: usize = 0;
-    while i < UseMap::SITES {
-        let at = UseMap::SITES * (site as usize) + i;
-        r[i] = less(old[i], homes[at]);
-        i += 1;
-    }
-    UseMap { rights: r }
+    let rights = array::from_fn(|t| less(m.rights[t], net.home(site, t as u8)));
+    UseMap { rights }
 }
 
 // Whether a use map has no right.
 fn is_empty(m: UseMap) -> bool
     ensures { result ≡ all (λ t. eqb (get_or m.rights t 0) 0) (below 32) }
 {
-    let rights = m.rights;
-    let mut i: usize = 0;
-    while i < UseMap::SITES {
-        if rights[i] != 0 {
-            return false;
-        }
-        i += 1;
-    }
-    true
+    (0..UseMap::SITES).all(|t| m.rights[t] == 0)
 }
 
-// The rights added to the report for one subject, where it is in the set.
-fn add_row(bytes: &mut [u8; 1024], set: u32, subject: u8, rights: [u8; 32])
-    requires { (subject < 32) × (length bytes.old ≡ 1024) }
-    ensures { RowAdded set subject rights bytes.old bytes.new }
+// The rights of a use map added to the report for one subject, where it is in the set.
+fn add_row(bytes: &mut [u8; 1024], set: u32, subject: u8, m: UseMap)
+    requires { subject < 32 }
+    ensures { RowAdded set subject m.rights bytes.old bytes.new }
 {
     if sets::has_site(set, subject) {
-        let at = UseMap::SITES * (subject as usize);
-        let mut object: usize = 0;
-        while object < UseMap::SITES {
-            bytes[at + object] = bytes[at + object] | rights[object];
-            object += 1;
+        let at = UseMap::SITES * subject as usize;
+        for object in 0..UseMap::SITES {
+            bytes[at + object] = bytes[at + object] | m.rights[object];
         }
     }
 }
 
 // The rights of a use map added to the report, for each subject of the set.
 fn add_uses(bytes: &mut [u8; 1024], set: u32, m: UseMap)
-    requires { length bytes.old ≡ 1024 }
     ensures { bytes.new ≡ table 1024 (λ i. join (get_or bytes.old i 0) (grant (mem (i / 32) set) (get_or m.rights (i % 32) 0))) }
 {
-    let rights = m.rights;
-    let mut subject: u8 = 0;
-    while subject < 32 {
-        add_row(bytes, set, subject, rights);
-        subject += 1;
+    for subject in 0..32u8 {
+        add_row(bytes, set, subject, m);
     }
 }
 
-// The E rights of each site less its home policy, added to the report.
-fn add_holds(bytes: &mut [u8; 1024], hold: &[u8; 1024], homes: &[u8; 1024])
-    requires { length bytes.old ≡ 1024 }
-    ensures { (N : Net) (E : Estimate) → N.homes ≡ homes.now → E.hold ≡ hold.now → bytes.new ≡ table 1024 (λ i. join (get_or bytes.old i 0) (hold_adds N E (i / 32) (i % 32))) }
+// The E rights of each site less its home policy.
+fn holds_left(net: &Net, estimate: &Estimate) -> [u8; 1024]
+    ensures { result ≡ table 1024 (λ i. hold_adds (net_view net.now) (estimate_view estimate.now) (i / 32) (i % 32)) }
 {
-    let mut i: usize = 0;
-    while i < tables::REPORT {
-        bytes[i] = bytes[i] | less(hold[i], homes[i]);
-        i += 1;
-    }
+    array::from_fn(|i| less(estimate.hold[i], net.homes[i]))
 }
 
 // What a line adds to the report: the lines that follow, then the target, the body and the sandbox of an eval.
@@ -152,140 +121,91 @@ fn evals_of(action: Action) -> Evals
 // What the eval lines of line q add, those inside bodies too, `places` being its place set.
 fn add_evals(
     bytes: &mut [u8; 1024],
-    lines: &[u8; 2560],
-    n: usize,
-    boxes: &[u8; 1056],
-    binds: &[u32; 32],
+    net: &Net,
+    estimate: &Estimate,
+    lines: &Lines,
     places: u32,
     q: u8,
 )
-    requires in_form { InForm n lines.now q }
-    requires bytes_len { length bytes.old ≡ 1024 }
-    ensures { (N : Net) (E : Estimate) → N.boxes ≡ boxes.now → E.binds ≡ binds.now → bytes.new ≡ table 1024 (λ i. join (get_or bytes.old i 0) (adds N E places (tree (lines_view n lines.now) q) (i / 32) (i % 32))) }
+    requires { InForm lines.now.count lines.now.bytes q }
+    ensures { bytes.new ≡ table 1024 (λ i. join (get_or bytes.old i 0) (adds (net_view net.now) (estimate_view estimate.now) places (tree (lines_of lines.now) q) (i / 32) (i % 32))) }
 {
-    let evals = evals_of(tables::action_at(lines, q));
-    match evals {
+    match evals_of(lines.action(q)) {
         Evals::Nothing => {}
         Evals::Both(next, second) => {
-            add_evals(bytes, lines, n, boxes, binds, places, next);
-            add_evals(bytes, lines, n, boxes, binds, places, second);
+            add_evals(bytes, net, estimate, lines, places, next);
+            add_evals(bytes, net, estimate, lines, places, second);
         }
         Evals::Next(next) => {
-            add_evals(bytes, lines, n, boxes, binds, places, next);
+            add_evals(bytes, net, estimate, lines, places, next);
         }
         Evals::Sends(next, target, body, sandbox) => {
-            let set = flow::reach(target, places, binds);
-            let uses = flow::use_map(lines, n, boxes, binds, set, body);
-            add_uses(bytes, set, less_sure(uses, boxes, sandbox, set));
-            add_evals(bytes, lines, n, boxes, binds, set, body);
-            add_evals(bytes, lines, n, boxes, binds, places, next);
+            let set = flow::reach(target, places, estimate);
+            let uses = flow::use_map(net, estimate, lines, set, body);
+            add_uses(bytes, set, less_sure(uses, net, sandbox, set));
+            add_evals(bytes, net, estimate, lines, set, body);
+            add_evals(bytes, net, estimate, lines, places, next);
         }
     }
 }
 
 // An L row's use map less the home policy of its site, added to the report.
-fn add_root(
-    bytes: &mut [u8; 1024],
-    homes: &[u8; 1024],
-    boxes: &[u8; 1056],
-    lines: &[u8; 2560],
-    n: usize,
-    binds: &[u32; 32],
-    site: u8,
-    q: u8,
-)
+fn add_root(bytes: &mut [u8; 1024], net: &Net, estimate: &Estimate, site: u8, q: u8)
     requires site_bound { site < 32 }
-    requires in_form { InForm n lines.now q }
-    requires bytes_len { length bytes.old ≡ 1024 }
-    ensures { (N : Net) (E : Estimate) → Given N E homes.now boxes.now n lines.now binds.now → bytes.new ≡ table 1024 (λ i. join (get_or bytes.old i 0) (root_adds N E (a_root site q) (i / 32) (i % 32))) }
+    requires in_form { InForm net.now.lines.count net.now.lines.bytes q }
+    ensures { bytes.new ≡ table 1024 (λ i. join (get_or bytes.old i 0) (root_adds (net_view net.now) (estimate_view estimate.now) (a_root site q) (i / 32) (i % 32))) }
 {
     let places = sets::single(site);
-    let uses = flow::use_map(lines, n, boxes, binds, places, q);
-    add_uses(bytes, places, less_home(uses, homes, site));
+    let uses = flow::use_map(net, estimate, &net.lines, places, q);
+    add_uses(bytes, places, less_home(uses, net, site));
 }
 
-// The report of a net and an estimate, given by their tables: byte 32 * subject + object.
-pub fn report<'a>(
-    homes: &'a [u8; 1024],
-    boxes: &'a [u8; 1056],
-    roots: &'a [u8; 128],
-    nroots: usize,
-    lines: &'a [u8; 2560],
-    nlines: usize,
-    binds: &'a [u32; 32],
-    hold: &'a [u8; 1024],
-) -> [u8; 1024]
-    requires { Rooted nlines lines.now nroots roots.now }
-    ensures { (N : Net) (E : Estimate) → Given N E homes.now boxes.now nlines lines.now binds.now → N.roots ≡ roots_view nroots roots.now → E.hold ≡ hold.now → result ≡ report_of N E }
+// The report of a net and an estimate: byte 32 * subject + object.
+pub fn report(net: &Net, estimate: &Estimate) -> [u8; 1024]
+    requires { Rooted net.now.lines net.now.roots }
+    ensures { result ≡ report_of (net_view net.now) (estimate_view estimate.now) }
 {
-    let mut bytes = [0u8; 1024];
-    add_holds(&mut bytes, hold, homes);
-    let mut i: usize = 0;
-    while i < nroots {
-        let at = tables::ROOT * i;
-        let site = roots[at];
-        let line = roots[at + 1];
-        add_root(&mut bytes, homes, boxes, lines, nlines, binds, site, line);
-        add_evals(
-            &mut bytes,
-            lines,
-            nlines,
-            boxes,
-            binds,
-            sets::single(site),
-            line,
-        );
-        i += 1;
+    let mut bytes = holds_left(net, estimate);
+    for i in 0..net.roots.count {
+        let site = net.roots.site(i);
+        let line = net.roots.line(i);
+        add_root(&mut bytes, net, estimate, site, line);
+        let places = sets::single(site);
+        add_evals(&mut bytes, net, estimate, &net.lines, places, line);
     }
     bytes
 }
 
 // Whether a body sent to the sites of a reach uses no right but those that sandbox k has at each of them.
-fn body_within(
-    lines: &[u8; 2560],
-    n: usize,
-    boxes: &[u8; 1056],
-    binds: &[u32; 32],
-    set: u32,
-    body: u8,
-    k: u8,
-) -> bool
-    requires in_form { InForm n lines.now body }
+fn body_within(net: &Net, estimate: &Estimate, lines: &Lines, set: u32, body: u8, k: u8) -> bool
+    requires in_form { InForm lines.now.count lines.now.bytes body }
     requires k_bound { k < 32 }
-    ensures { (N : Net) (E : Estimate) → N.boxes ≡ boxes.now → E.binds ≡ binds.now → result ≡ nowhere (eval_adds N E set k (tree (lines_view n lines.now) body)) }
+    ensures { result ≡ nowhere (eval_adds (net_view net.now) (estimate_view estimate.now) set k (tree (lines_of lines.now) body)) }
 {
     if set == 0 {
         return true;
     }
-    let uses = flow::use_map(lines, n, boxes, binds, set, body);
-    is_empty(less_sure(uses, boxes, k, set))
+    let uses = flow::use_map(net, estimate, lines, set, body);
+    is_empty(less_sure(uses, net, k, set))
 }
 
 // Whether each eval line of line q adds nothing to a report, `places` being its place set.
-pub fn adds_nothing(
-    lines: &[u8; 2560],
-    n: usize,
-    boxes: &[u8; 1056],
-    binds: &[u32; 32],
-    places: u32,
-    q: u8,
-) -> bool
-    requires { InForm n lines.now q }
-    ensures { (N : Net) (E : Estimate) → N.boxes ≡ boxes.now → E.binds ≡ binds.now → result ≡ adds_nothing N E places (tree (lines_view n lines.now) q) }
+pub fn adds_nothing(net: &Net, estimate: &Estimate, lines: &Lines, places: u32, q: u8) -> bool
+    requires { InForm lines.now.count lines.now.bytes q }
+    ensures { result ≡ adds_nothing (net_view net.now) (estimate_view estimate.now) places (tree (lines_of lines.now) q) }
 {
-    let evals = evals_of(tables::action_at(lines, q));
-    match evals {
+    match evals_of(lines.action(q)) {
         Evals::Nothing => true,
         Evals::Both(next, second) => {
-            adds_nothing(lines, n, boxes, binds, places, next)
-                && adds_nothing(lines, n, boxes, binds, places, second)
+            adds_nothing(net, estimate, lines, places, next)
+                && adds_nothing(net, estimate, lines, places, second)
         }
-        Evals::Next(next) => adds_nothing(lines, n, boxes, binds, places, next),
+        Evals::Next(next) => adds_nothing(net, estimate, lines, places, next),
         Evals::Sends(next, target, body, sandbox) => {
-            let set = flow::reach(target, places, binds);
-            body_within(lines, n, boxes, binds, set, body, sandbox)
-                && (adds_nothing(lines, n, boxes, binds, set, body)
-                    && adds_nothing(lines, n, boxes, binds, places, next))
+            let set = flow::reach(target, places, estimate);
+            body_within(net, estimate, lines, set, body, sandbox)
+                && (adds_nothing(net, estimate, lines, set, body)
+                    && adds_nothing(net, estimate, lines, places, next))
         }
     }
 }

@@ -5,7 +5,7 @@ ghost use Rattle.std.specs.Prelude.{◌≡◌, List, ℕ, ◌<◌, ◌≤◌, mi
 ghost use Rattle.klaim.specs.Net.{home, box, box_self, may, holds};
 ghost use Rattle.klaim.specs.Process.{line_at};
 ghost use Rattle.klaim.specs.State.{is_nil};
-ghost use Rattle.tables.specs.View.{Decoded, slot_of, loc_of, field_bytes, line_by, lines_of, net_view, estimate_view, action_line, LowLoc, LowSlot, LowAction};
+ghost use Rattle.tables.specs.View.{Decoded, slot_of, loc_of, field_bytes, line_by, lines_of, root_at, net_view, estimate_view, action_line, LowLoc, LowSlot, LowAction};
 
 use klaim::{Loc, Site, Slot, Var};
 
@@ -121,6 +121,26 @@ impl Net {
         ensures { result ≡ box_self (net_view self.now) k }
     {
         self.boxes[BOX * k as usize + OWN]
+    }
+}
+
+impl Roots {
+    // The site of root i.
+    #[tactic(auto, unfolding(crate::specs::View::root_at))]
+    pub fn site(&self, i: usize) -> u8
+        requires { i < 64 }
+        ensures { result ≡ (root_at self.now.bytes i).site }
+    {
+        self.bytes[ROOT * i]
+    }
+
+    // The line of root i.
+    #[tactic(auto, unfolding(crate::specs::View::root_at))]
+    pub fn line(&self, i: usize) -> u8
+        requires { i < 64 }
+        ensures { result ≡ (root_at self.now.bytes i).line }
+    {
+        self.bytes[ROOT * i + 1]
     }
 }
 

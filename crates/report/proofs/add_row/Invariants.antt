@@ -1,6 +1,6 @@
 use mathlib.Core.Path.{◌≡◌}
 use mathlib.Core.Bool.{true}
-use Prim.Native.Nat.{◌+◌, ◌-◌, ◌*◌, ◌<◌, ◌≤◌}
+use Prim.Native.Nat.{◌+◌, ◌*◌}
 use lib.ListN.{length}
 use Rattle.sets.specs.Bits.{mem}
 use Rattle.sets.proofs.Tables.{Filled}
@@ -8,7 +8,4 @@ use Rattle.report.proofs.Rows.{row_bytes}
 use Rattle.report.proofs.add_row.Given as goal
 
 abbrev pub invariant-loop-object : goal.invariant-loop-object
-invariant-loop-object l = (l.object ≤ 32) × (length l.initial.bytes ≡ 1024) × (l.subject < 32) × (l.at ≡ 32 * l.subject) × (mem l.subject l.set ≡ true) × Filled 0 (row_bytes l.at l.rights l.initial.bytes) l.initial.bytes l.bytes (l.at + l.object)
-
-abbrev pub decreases-loop-object : goal.decreases-loop-object
-decreases-loop-object l = 32 - l.object
+invariant-loop-object l = (length l.initial.bytes ≡ 1024) × (l.at ≡ 32 * l.subject) × (mem l.subject l.set ≡ true) × Filled 0 (row_bytes l.at l.m.rights l.initial.bytes) l.initial.bytes l.bytes (l.at + l.object)

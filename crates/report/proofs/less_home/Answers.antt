@@ -1,19 +1,10 @@
-use mathlib.Core.Path.{◌≡◌, refl}
-use native.Mathlib.Omega.{arith}
-use Rattle.sets.proofs.Tables.{filled_none, filled_more, filled_all}
-use Rattle.report.proofs.Laws.{home_at}
+use borrow.Author.Rules.{rules}
+use lib.ListN.{get_or}
+use Rattle.sets.specs.Bits.{less}
+use Rattle.sets.proofs.FromFn.{from_fn_table}
+use Rattle.klaim.specs.Net.{home}
+use Rattle.tables.specs.View.{net_view}
 use Rattle.report.proofs.less_home.Goals as goal
 
-pub loop-i-init : goal.loop-i-init
-loop-i-init c = (omega arith, omega arith, λ N e. filled_none 0 _ _)
-
-pub loop-i-preserved : goal.loop-i-preserved
-loop-i-preserved c =
-    let at = c.loop-i in
-    let ar = c.args in
-    (omega arith, at.invariant.1, λ N e. filled_more (at.invariant.2 N e) (omega arith) (rw (c.less.ensures, home_at N ar.site at.i e)))
-
 pub returns : goal.returns
-returns c =
-    let e : c.loop-i.i ≡ 32 = omega arith in
-    λ N q. filled_all (rw e at (c.loop-i.invariant.2 N q)) refl
+returns c = from_fn_table _ _ (λ t. less (get_or c.args.m.rights t 0) (home (net_view c.args.net.now) c.args.site t)) 32 0 (λ i y q l e. search rules) c.from_fn-rights.ensures.items

@@ -1,39 +1,28 @@
-use mathlib.Core.Path.{◌≡◌, refl, ap, ◌∙◌}
-use mathlib.Core.List.{[]}
+use mathlib.Core.Path.{◌≡◌, ◌∙◌}
 use native.Mathlib.Omega.{arith}
-use lib.ListN as ListN
-use Rattle.sets.proofs.Tables.{length_table}
-use Rattle.tables.specs.View.{lines_view}
-use Rattle.report.proofs.Laws.{some_net, some_estimate}
+use Rattle.tables.specs.View.{net_view, estimate_view}
 use Rattle.report.proofs.Whole.{far_none, far_more, far_all}
 use Rattle.report.proofs.report.Goals as goal
 
 pub loop-i-init : goal.loop-i-init
-loop-i-init c = (omega arith, ap ListN.length (c.add_holds.ensures (some_net _ [] []) (some_estimate [] _) refl refl) ∙ length_table 1024 _, λ N E G h. far_none N E _ (c.add_holds.ensures N E G.homes_is h))
+loop-i-init c = far_none (net_view c.args.net.now) (estimate_view c.args.estimate.now) c.args.net.now.roots.bytes c.holds_left-bytes.ensures
 
 pub add_root-requires : goal.add_root-requires
 add_root-requires c =
-    let at = c.loop-i in
-    record { site_bound = c.requires.placed at.i (omega arith); in_form = record { in_order = c.requires.in_order; present = c.requires.present at.i (omega arith) }; bytes_len = at.invariant.1 }
-
-pub single-requires : goal.single-requires
-single-requires c =
-    let at = c.loop-i in
-    c.requires.placed at.i (omega arith)
+    let i = c.loop-i.i in
+    record { site_bound = omega (arith, c.site-site.ensures, c.requires.placed i c.loop-i-test.true); in_form = record { in_order = c.requires.in_order; present = omega (arith, c.line-line.ensures, c.requires.present i c.loop-i-test.true) } }
 
 pub add_evals-requires : goal.add_evals-requires
-add_evals-requires c =
-    let at = c.loop-i in
-    record { in_form = record { in_order = c.requires.in_order; present = c.requires.present at.i (omega arith) }; bytes_len = ap ListN.length (c.add_root.ensures (some_net _ _ (lines_view _ _)) (some_estimate _ []) (record { homes_is = refl; boxes_is = refl; lines_is = refl; binds_is = refl })) ∙ length_table 1024 _ }
+add_evals-requires c = record { in_order = c.requires.in_order; present = omega (arith, c.line-line.ensures, c.requires.present c.loop-i.i c.loop-i-test.true) }
+
+pub single-places-requires : goal.single-places-requires
+single-places-requires c = omega (arith, c.site-site.ensures, c.requires.placed c.loop-i.i c.loop-i-test.true)
 
 pub loop-i-preserved : goal.loop-i-preserved
-loop-i-preserved c =
-    let s = c.args in
-    let at = c.loop-i in
-    (omega arith, ap ListN.length (c.add_evals.ensures (some_net [] _ []) (some_estimate _ []) refl refl) ∙ length_table 1024 _, λ N E G h. far_more N E G s.roots.now at.i c.single.ensures (at.invariant.2 N E G h) (c.add_root.ensures N E G) (c.add_evals.ensures N E G.boxes_is G.binds_is))
+loop-i-preserved c = far_more (net_view c.args.net.now) (estimate_view c.args.estimate.now) c.args.net.now.roots.bytes c.loop-i.i c.site-site.ensures c.line-line.ensures c.single-places.ensures c.loop-i.invariant c.add_root.ensures c.add_evals.ensures
 
 pub returns : goal.returns
 returns c =
-    let s = c.args in
-    let e : c.loop-i.i ≡ s.nroots = omega arith in
-    λ N E G r h. c.loop-i.invariant.2 N E G h ∙ rw e (far_all N E s.nroots s.roots.now r)
+    let N = c.args.net.now in
+    let e : c.loop-i.i ≡ N.roots.count = omega arith in
+    c.loop-i.invariant ∙ rw e (far_all (net_view N) (estimate_view c.args.estimate.now))
