@@ -1,107 +1,76 @@
-//! The verdict on a net and its estimate: accepted, or the first broken rule.
+//! The verdict on a net and an estimate.
 #![tactic(auto)]
 
-ghost use Rattle.std.specs.Prelude.{◌≡◌, true, ◌≤◌, length};
+ghost use Rattle.std.specs.Prelude.{◌≡◌, true, ◌≤◌};
 ghost use Rattle.sets.specs.Lists.{all, concat};
-ghost use Rattle.klaim.specs.Net.{Net, Estimate};
-ghost use Rattle.klaim.specs.Analysis.{stands, first_not, broken as broken_of, place_set, process, verdict as verdict_of, verdict_of as verdict_by};
+ghost use Rattle.sets.specs.Options.{option_of};
+ghost use Rattle.klaim.specs.Analysis.{first_not, least, stands, broken as broken_of, place_set, process, verdict_of as verdict_by, verdict as verdict_of};
 ghost use Rattle.klaim.specs.Invariant.{all_below};
-ghost use Rattle.tables.specs.View.{rows_view, roots_view, lines_view};
+ghost use Rattle.klaim.specs.Net as Spec;
+ghost use Rattle.tables.specs.View.{tuples_of, roots_of, net_view, estimate_view};
 ghost use Rattle.rules.specs.Masks.{IndexOf};
 ghost use Rattle.report.specs.Given.{Rooted};
-ghost use Rattle.broken.specs.Lowest.{lowest, found};
-ghost use Rattle.verdict.specs.Verdict.{verdict_view, Tabled, Judgeable};
+ghost use Rattle.verdict.specs.Verdict.{verdict_view, Judgeable};
 
-#[derive(Clone, Copy)]
+use matching::RowIndex;
+use tables::{Estimate, Net, Tuples};
+
+// Accepted, or the first broken T row or Q line.
+#[derive(Clone, Copy, PartialEq, Eq)]
 pub enum Verdict {
     Accepted,
-    BrokenTuple(u16),
-    BrokenLine(u16),
+    BrokenTuple(u8),
+    BrokenLine(u8),
 }
 
-// The first of the T rows whose tuple has no A row, by the index of these; their number, where there is none.
-fn first_missing(tuples: &[u8; 1536], count: usize, index: &[u64; 768]) -> usize
-    requires { (count ≤ 256) × (length tuples.now ≡ 1536) × (all (all_below 32) (rows_view count tuples.now) ≡ true) × (length index.now ≡ 768) }
-    ensures { ((E : Estimate) → IndexOf E index.now → found count result ≡ first_not (stands E) (rows_view count tuples.now)) × (result ≤ count) }
+// The first of the T rows whose tuple has no A row, by the index of these.
+fn first_missing(tuples: &Tuples, index: &RowIndex) -> Option<u8>
+    requires few { tuples.now.count ≤ 256 }
+    requires sites { all (all_below 32) (tuples_of tuples.now) ≡ true }
+    ensures { (E : Spec.Estimate) → IndexOf E index.now.sets → option_of (λ i. i) result ≡ first_not (stands E) (tuples_of tuples.now) }
 {
-    let mut i = 0;
-    while i < count {
-        if matching::has_row(index, tuples, i) {
-            i += 1;
-        } else {
-            return i;
+    for i in 0..tuples.count {
+        if !matching::has_row(index, tuples, i) {
+            return Some(i as u8);
         }
     }
-    i
+    None
 }
 
-// The least line whose rule is broken, over all roots; 256 where there is none.
-fn first_line(
-    roots: &[u8; 128],
-    nroots: usize,
-    lines: &[u8; 2560],
-    nlines: usize,
-    boxes: &[u8; 1056],
-    binds: &[u32; 32],
-    hold: &[u8; 1024],
-    index: &[u64; 768],
-) -> u16
-    requires { Rooted nlines lines.now nroots roots.now × (length lines.now ≡ 2560) × (length index.now ≡ 768) }
-    ensures { (N : Net) (E : Estimate) → N.boxes ≡ boxes.now → N.lines ≡ lines_view nlines lines.now → E.binds ≡ binds.now → E.hold ≡ hold.now → IndexOf E index.now → result ≡ lowest (concat (λ x. broken_of N E (place_set x.site) (process N x)) (roots_view nroots roots.now)) }
+// The least line whose rule is broken, over all roots.
+fn first_line(net: &Net, estimate: &Estimate, index: &RowIndex) -> Option<u8>
+    requires { Rooted net.now.lines net.now.roots }
+    ensures { IndexOf (estimate_view estimate.now) index.now.sets → option_of (λ q. q) result ≡ least (concat (λ x. broken_of (net_view net.now) (estimate_view estimate.now) (place_set x.site) (process (net_view net.now) x)) (roots_of net.now.roots)) }
 {
-    let mut r: u16 = broken::NONE;
-    let mut i = nroots;
-    while 0 < i {
-        i -= 1;
-        let places = sets::single(roots[2 * i]);
-        let b = broken::first_broken(
-            lines,
-            nlines,
-            boxes,
-            binds,
-            hold,
-            index,
-            places,
-            roots[2 * i + 1],
-        );
-        r = broken::lesser(b, r);
+    let mut first = None;
+    for i in (0..net.roots.count).rev() {
+        let places = sets::single(net.roots.site(i));
+        let line = net.roots.line(i);
+        let here = broken::first_broken(net, estimate, index, &net.lines, places, line);
+        first = broken::lesser(here, first);
     }
-    r
+    first
 }
 
-// The verdict by the place of the first T row and by the first line.
-fn decide(i: u16, count: u16, q: u16) -> Verdict
-    ensures { verdict_view result ≡ verdict_by (found count i) (found 256 q) }
+// The verdict by the first T row and by the first line.
+#[tactic(auto, unfolding(crate::specs::Verdict::verdict_view, klaim::specs::Analysis::verdict_of))]
+fn decide(tuple: Option<u8>, line: Option<u8>) -> Verdict
+    ensures { verdict_view result ≡ verdict_by (option_of (λ i. i) tuple) (option_of (λ q. q) line) }
 {
-    if i != count {
-        return Verdict::BrokenTuple(i);
+    match (tuple, line) {
+        (Some(i), _) => Verdict::BrokenTuple(i),
+        (None, Some(q)) => Verdict::BrokenLine(q),
+        (None, None) => Verdict::Accepted,
     }
-    if q != broken::NONE {
-        return Verdict::BrokenLine(q);
-    }
-    Verdict::Accepted
 }
 
 // T rows first, then Q lines, each in order.
-pub fn judge<'a>(
-    tuples: &'a [u8; 1536],
-    ntuples: usize,
-    roots: &'a [u8; 128],
-    nroots: usize,
-    lines: &'a [u8; 2560],
-    nlines: usize,
-    boxes: &'a [u8; 1056],
-    binds: &'a [u32; 32],
-    hold: &'a [u8; 1024],
-    rows: &'a [u8; 1536],
-    n: usize,
-) -> Verdict
-    requires { Judgeable tuples.now ntuples roots.now nroots lines.now nlines rows.now n }
-    ensures { (N : Net) (E : Estimate) → Tabled N E boxes.now tuples.now ntuples roots.now nroots lines.now nlines binds.now rows.now n hold.now → verdict_view result ≡ verdict_of N E }
+pub fn judge(net: &Net, estimate: &Estimate) -> Verdict
+    requires { Judgeable net.now estimate.now }
+    ensures { verdict_view result ≡ verdict_of (net_view net.now) (estimate_view estimate.now) }
 {
-    let mut index = [0u64; 768];
-    matching::fill(&mut index, rows, n);
-    let i = first_missing(tuples, ntuples, &index);
-    let q = first_line(roots, nroots, lines, nlines, boxes, binds, hold, &index);
-    decide(i as u16, ntuples as u16, q)
+    let index = RowIndex::of(&estimate.stand);
+    let tuple = first_missing(&net.tuples, &index);
+    let line = first_line(net, estimate, &index);
+    decide(tuple, line)
 }

@@ -1,46 +1,41 @@
-use mathlib.Core.Path.{◌≡◌, ap, ◌∙◌}
+use mathlib.Core.Path.{◌≡◌, ap, ap₂, ◌∙◌}
 use mathlib.Core.List.{List}
-use Prim.Native.Nat.{ℕ, ◌-◌, ◌+◌, ◌*◌, min}
+use mathlib.Core.Option.{Option}
+use Prim.Native.Nat.{ℕ, ◌-◌, ◌^◌, ◌<◌}
 use native.Mathlib.Omega.{arith}
-use lib.ListN.{drop, get_or}
+use lib.ListN.{drop}
 use Rattle.sets.specs.Lists.{concat, table}
 use Rattle.klaim.specs.Process.{tree}
 use Rattle.klaim.specs.Net.{Root}
-use Rattle.klaim.specs.Analysis.{broken, place_set, process}
-use Rattle.tables.specs.View.{root_at, roots_view, lines_view}
-use Rattle.broken.specs.Lowest.{lowest}
-use Rattle.verdict.proofs.Laws.{least_end, least_down, root_broken}
+use Rattle.klaim.specs.Analysis.{broken, least, place_set, process}
+use Rattle.tables.specs.View.{root_at, roots_view, net_view, estimate_view}
+use Rattle.broken.specs.Lesser.{lesser_of}
+use Rattle.verdict.proofs.Laws.{least_end, least_down}
 use Rattle.verdict.proofs.first_line.Goals as goal
 
 pub loop-i-init : goal.loop-i-init
-loop-i-init c = (omega arith, λ N E b l v h z. least_end (λ x. broken N E (place_set x.site) (process N x)) c.args.nroots (root_at c.args.roots.now))
-
-pub single-places-requires : goal.single-places-requires
-single-places-requires c = c.requires.0.placed (c.loop-i.i - 1) (omega arith)
-
-pub first_broken-b-requires : goal.first_broken-b-requires
-first_broken-b-requires c =
-    let at = c.loop-i in
-    record { in_form = record { in_order = c.requires.0.in_order; present = c.requires.0.present (at.i - 1) (omega arith) }; lines_len = c.requires.1; index_len = c.requires.2 }
-
-pub loop-i-smaller : goal.loop-i-smaller
-loop-i-smaller c = omega arith
+loop-i-init c =
+    let N = net_view c.args.net.now in
+    λ z. least_end (λ x. broken N (estimate_view c.args.estimate.now) (place_set x.site) (process N x)) c.args.net.now.roots.count (root_at c.args.net.now.roots.bytes)
 
 pub loop-i-preserved : goal.loop-i-preserved
+unfolding place_set
 loop-i-preserved c =
-    let at = c.loop-i in (
-      omega arith,
-      λ N E b l v h z.
-          let F : Root → List ℕ = λ x. broken N E (place_set x.site) (process N x) in
-          c.lesser-r.ensures
-          ∙ ap (λ (m : ℕ). min m at.r) (c.first_broken-b.ensures N E b v h z ∙ ap lowest (ap (λ (P : ℕ). broken N E P (tree (lines_view c.args.nlines c.args.lines.now) (get_or c.args.roots.now (2 * (at.i - 1) + 1) 0))) c.single-places.ensures ∙ root_broken N E c.args.roots.now c.args.lines.now c.args.nlines (at.i - 1) l))
-          ∙ ap (λ (m : ℕ). min (lowest (F (root_at c.args.roots.now (at.i - 1)))) m) (at.invariant.1 N E b l v h z)
-          ∙ least_down F c.args.nroots (root_at c.args.roots.now) at.i (omega arith) (omega arith),
-    )
+    let at = c.loop-i in
+    let rs = c.args.net.now.roots in
+    let N = net_view c.args.net.now in
+    let E = estimate_view c.args.estimate.now in
+    let F : Root → List ℕ = λ x. broken N E (2 ^ x.site) (tree N.lines x.line) in
+    λ z.
+    let here = c.first_broken-here.ensures z ∙ ap₂ (λ (P q : ℕ). least (broken N E P (tree N.lines q))) (c.single-places.ensures ∙ ap (λ (s : ℕ). 2 ^ s) c.site.ensures) c.line-line.ensures in
+    c.lesser-first.ensures ∙ ap₂ lesser_of here (at.invariant z) ∙ least_down F rs.count (root_at rs.bytes) at.i (omega arith) (omega arith)
 
 pub returns : goal.returns
 unfolding roots_view
 returns c =
     let at = c.loop-i in
+    let rs = c.args.net.now.roots in
+    let N = net_view c.args.net.now in
+    let E = estimate_view c.args.estimate.now in
     let e : at.i ≡ 0 = omega arith in
-    λ N E b l v h z. at.invariant.1 N E b l v h z ∙ ap (λ (k : ℕ). lowest (concat (λ x. broken N E (place_set x.site) (process N x)) (drop k (table c.args.nroots (root_at c.args.roots.now))))) e
+    λ z. at.invariant z ∙ ap (λ (k : ℕ). least (concat (λ x. broken N E (place_set x.site) (process N x)) (drop k (table rs.count (root_at rs.bytes))))) e

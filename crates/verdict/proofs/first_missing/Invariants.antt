@@ -1,6 +1,6 @@
 use mathlib.Core.Path.{◌≡◌}
 use mathlib.Core.Bool.{true}
-use Prim.Native.Nat.{ℕ, ◌≤◌, ◌<◌, ◌-◌}
+use Prim.Native.Nat.{ℕ, ◌<◌}
 use Rattle.tables.specs.View.{row_at}
 use Rattle.klaim.specs.Net.{Estimate}
 use Rattle.klaim.specs.Analysis.{stands}
@@ -8,7 +8,4 @@ use Rattle.rules.specs.Masks.{IndexOf}
 use Rattle.verdict.proofs.first_missing.Given as goal
 
 abbrev pub invariant-loop-i : goal.invariant-loop-i
-invariant-loop-i l = (l.i ≤ l.count) × ((E : Estimate) → IndexOf E l.index → (k : ℕ) → k < l.i → stands E (row_at l.tuples k) ≡ true)
-
-abbrev pub decreases-loop-i : goal.decreases-loop-i
-decreases-loop-i l = l.count - l.i
+invariant-loop-i l = (E : Estimate) → IndexOf E l.index.sets → (k : ℕ) → k < l.i → stands E (row_at l.tuples.bytes k) ≡ true
