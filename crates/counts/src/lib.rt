@@ -1,19 +1,17 @@
 //! The numbers of the March listing: rights reported, rights held, rights used, and the share.
 #![tactic(auto)]
 
-ghost use Rattle.std.specs.Prelude.{◌≡◌, ◌<◌, ◌≤◌, length, get_or};
+ghost use Rattle.std.specs.Prelude.{◌≡◌, ◌<◌, ◌≤◌, get_or};
 ghost use Rattle.sets.specs.Lists.{sum, below, table};
 ghost use Rattle.sets.specs.Bits.{size, meet};
-ghost use Rattle.klaim.specs.Limits.{site_limit, report_size};
-ghost use Rattle.klaim.specs.Net.{Net, home};
+ghost use Rattle.klaim.specs.Limits.{site_limit};
+ghost use Rattle.klaim.specs.Net.{home};
 ghost use Rattle.klaim.specs.Listing as Listing;
+ghost use Rattle.tables.specs.View.{net_view};
 
 use sets::EVERY;
-
-// The limits of document 01.
-const SITES: usize = 32;
-
-const REPORT: usize = 1024;
+use std::array;
+use tables::{Net, SITES};
 
 // How many rights a set has.
 fn size_of(rights: u8) -> u32
@@ -26,53 +24,40 @@ fn size_of(rights: u8) -> u32
 
 // The number of rights reported.
 pub fn reported(report: &[u8; 1024]) -> u32
-    requires { length report.now ≡ report_size }
     ensures { result ≡ Listing.reported report.now }
 {
     let mut count = 0;
-    let mut i = 0;
-    while i < REPORT {
-        count += size_of(report[i]);
-        i += 1;
+    for rights in report {
+        count += size_of(*rights);
     }
     count
 }
 
 // The rights in the home policy of a site that are usable.
-pub fn used_count(homes: &[u8; 1024], usable: [u8; 32], s: u8) -> u32
-    requires { (length homes.now ≡ 1024) × (s < site_limit) }
-    ensures { (N : Net) → N.homes ≡ homes.now → result ≡ sum (λ t. size (meet (home N s t) (get_or usable t 0))) (below site_limit) }
+pub fn used_count(net: &Net, usable: [u8; 32], s: u8) -> u32
+    requires { s < site_limit }
+    ensures { result ≡ sum (λ t. size (meet (home (net_view net.now) s t) (get_or usable t 0))) (below site_limit) }
 {
-    let first = SITES * s as usize;
     let mut count = 0;
-    let mut t = 0;
-    while t < SITES {
-        count += size_of(homes[first + t] & usable[t]);
-        t += 1;
+    for t in 0..SITES {
+        count += size_of(net.home(s, t as u8) & usable[t]);
     }
     count
 }
 
 // The rights in the home policy of a site: every right is usable.
-fn home_count(homes: &[u8; 1024], s: u8) -> u32
-    requires { (length homes.now ≡ 1024) × (s < site_limit) }
-    ensures { (N : Net) → N.homes ≡ homes.now → result ≡ Listing.home_count N s }
+fn home_count(net: &Net, s: u8) -> u32
+    requires { s < site_limit }
+    ensures { result ≡ Listing.home_count (net_view net.now) s }
 {
-    used_count(homes, [EVERY; 32], s)
+    used_count(net, [EVERY; 32], s)
 }
 
 // The same of every site.
-pub fn home_counts(homes: &[u8; 1024]) -> [u32; 32]
-    requires { length homes.now ≡ 1024 }
-    ensures { (N : Net) → N.homes ≡ homes.now → result ≡ table site_limit (Listing.home_count N) }
+pub fn home_counts(net: &Net) -> [u32; 32]
+    ensures { result ≡ table site_limit (Listing.home_count (net_view net.now)) }
 {
-    let mut held = [0u32; 32];
-    let mut s = 0;
-    while s < SITES {
-        held[s] = home_count(homes, s as u8);
-        s += 1;
-    }
-    held
+    array::from_fn(|s| home_count(net, s as u8))
 }
 
 // a / p to the nearest number, a half to the even one; a is at most 1000 times the 160 rights of a home policy.

@@ -9,6 +9,7 @@ use Rattle.klaim.specs.declared.Slot.TheVariants.{Value, Bind, Wildcard}
 use Rattle.klaim.specs.Process.{Line, ordered}
 use Rattle.klaim.specs.Process as Process
 use Rattle.klaim.specs.Net as Spec
+use Rattle.klaim.specs.Reader.{World}
 use Rattle.tables.specs.declared.Lines.{Lines}
 use Rattle.tables.specs.declared.Tuples.{Tuples}
 use Rattle.tables.specs.declared.Roots.{Roots}
@@ -101,6 +102,10 @@ estimate_view E = record {
   stand = tuples_of E.stand;
   hold = E.hold;
 }
+
+-- a net and an estimate together
+abbrev pub world_of : Net → Estimate → World
+world_of N E = record { net = net_view N; estimate = estimate_view E }
 
 -- the number in a target or field is below 32
 abbrev pub LowLoc : Loc → Type 0

@@ -1,6 +1,7 @@
 use mathlib.Core.Path.{◌∙◌}
 use Rattle.counts.proofs.Bounds.{home_every}
+use Rattle.tables.specs.View.{net_view}
 use Rattle.counts.proofs.home_count.Goals as goal
 
 pub returns : goal.returns
-returns c N e = c.used_count.ensures N e ∙ home_every N _
+returns c = c.used_count.ensures ∙ home_every (net_view c.args.net.now) c.args.s

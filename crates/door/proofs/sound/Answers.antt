@@ -1,11 +1,20 @@
-use native.Mathlib.Omega.{arith}
-use Rattle.tables.specs.View.{lines_view}
-use Rattle.tables.proofs.LineTable.{length_view}
+use mathlib.Core.Path.{sym, ap, ◌∙◌}
+use mathlib.Core.Option.{Option}
+use Rattle.std.specs.Prelude.{Option as Told}
+use Prim.Native.Nat.{ℕ}
+use Rattle.sets.specs.Options.{option_of}
+use Rattle.tables.specs.View.{lines_of, net_view, estimate_view}
 use Rattle.door.proofs.Laws.{sound_broken, sound_adds}
 use Rattle.door.proofs.sound.Goals as goal
 
-pub returns-then-first-ne-NONE : goal.returns-then-first-ne-NONE
-returns-then-first-ne-NONE c = λ N E b v h z. sound_broken N E c.args.l (lines_view c.args.n c.args.lines.now) c.args.q c.single-places.ensures (c.first_broken-first.ensures N E b v h z) c.if-first-ne-NONE.true
+pub returns-in-Some : goal.returns-in-Some
+returns-in-Some c =
+    let N = net_view c.args.net.now in
+    let E = estimate_view c.args.estimate.now in
+    λ z. sound_broken N E c.args.l (lines_of c.args.lines.now) c.args.q c.single-places.ensures (sym (c.first_broken.ensures z) ∙ ap (option_of (λ q. q)) c.in-Some.is)
 
-pub returns : goal.returns
-returns c = λ N E b v h z. sound_adds N E c.args.l (lines_view c.args.n c.args.lines.now) c.args.q c.single-places.ensures (c.first_broken-first.ensures N E b v h z) (omega (arith, length_view c.args.n c.args.lines.now, c.requires.1)) c.if-first-ne-NONE.false (c.adds_nothing.ensures N E b v)
+pub returns-in-None : goal.returns-in-None
+returns-in-None c =
+    let N = net_view c.args.net.now in
+    let E = estimate_view c.args.estimate.now in
+    λ z. sound_adds N E c.args.l (lines_of c.args.lines.now) c.args.q c.single-places.ensures (sym (c.first_broken.ensures z) ∙ ap (option_of (λ q. q)) c.in-None.is) c.adds_nothing.ensures

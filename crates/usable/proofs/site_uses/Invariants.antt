@@ -1,5 +1,5 @@
 use mathlib.Core.Path.{◌≡◌}
-use Prim.Native.Nat.{ℕ, ◌≤◌}
+use Prim.Native.Nat.{ℕ}
 use lib.Dec.{eqb}
 use lib.ListN.{drop}
 use Rattle.sets.specs.Lists.{table}
@@ -7,7 +7,7 @@ use Rattle.sets.specs.Bits.{grant, joins}
 use Rattle.klaim.specs.Net.{Root, Net, Estimate}
 use Rattle.klaim.specs.Analysis.{place_set, process}
 use Rattle.klaim.specs.Report.{uses}
-use Rattle.tables.specs.View.{lines_view, root_at}
+use Rattle.tables.specs.View.{root_at, net_view, estimate_view}
 use Rattle.usable.proofs.site_uses.Given as goal
 
 -- what a root at site s uses on t
@@ -15,7 +15,4 @@ abbrev pub part : Net → Estimate → ℕ → ℕ → Root → ℕ
 part N E s t x = grant (eqb x.site s) (uses N E (place_set s) (process N x) t)
 
 abbrev pub invariant-loop-i : goal.invariant-loop-i
-invariant-loop-i l = (l.i ≤ l.m) × ((N : Net) (E : Estimate) → N.boxes ≡ l.boxes → E.binds ≡ l.binds → N.lines ≡ lines_view l.n l.lines → l.r.rights ≡ table 32 (λ t. joins (part N E l.s t) (drop l.i (table l.m (root_at l.roots)))))
-
-abbrev pub decreases-loop-i : goal.decreases-loop-i
-decreases-loop-i l = l.i
+invariant-loop-i l = l.r.rights ≡ table 32 (λ t. joins (part (net_view l.net) (estimate_view l.estimate) l.s t) (drop l.i (table l.net.roots.count (root_at l.net.roots.bytes))))

@@ -1,19 +1,11 @@
-use mathlib.Core.Path.{◌≡◌, refl}
-use native.Mathlib.Omega.{arith}
+use borrow.Author.Rules.{rules}
+use lib.ListN.{get_or}
 use Rattle.sets.specs.Bits.{join}
-use Rattle.sets.proofs.Tables.{filled_none, filled_more, filled_all}
+use Rattle.sets.proofs.FromFn.{from_fn_table}
+use Rattle.klaim.specs.Net.{holds}
+use Rattle.tables.specs.View.{estimate_view}
 use Rattle.usable.proofs.with_holds.Goals as goal
 
-pub loop-t-init : goal.loop-t-init
-loop-t-init c = (omega arith, omega arith, omega arith, filled_none 0 _ _)
-
-pub loop-t-preserved : goal.loop-t-preserved
-unfolding join
-loop-t-preserved c =
-    let at = c.loop-t in
-    (omega arith, at.invariant.1, at.invariant.2, filled_more at.invariant.3 (omega arith) refl)
-
 pub returns : goal.returns
-returns c =
-    let e : c.loop-t.t ≡ 32 = omega arith in
-    filled_all (rw e at c.loop-t.invariant.3) refl
+unfolding join
+returns c = from_fn_table _ _ (λ t. join (get_or c.args.m.rights t 0) (holds (estimate_view c.args.estimate.now) c.args.s t)) 32 0 (λ i y q l e. search rules) c.from_fn.ensures.items
