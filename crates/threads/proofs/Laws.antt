@@ -1,11 +1,13 @@
 -- Laws of a thread's bindings and of the list of threads.
 -- Assumes nothing.
-use mathlib.Core.Path.{◌≡◌, sym, ap, ◌∙◌}
+use mathlib.Core.Path.{◌≡◌, refl, sym, ap, ◌∙◌}
 use mathlib.Core.Bool.{Bool, true, false, cond}
 use mathlib.Core.List.{List, [], ◌∷◌, ◌++◌, map, map-append}
 use mathlib.Core.Option
 use mathlib.Core.Option.{Option, none, some}
-use Prim.Native.Nat.{ℕ, suc, ◌+◌, ◌*◌, ◌^◌, ◌<◌, ◌≤◌}
+use Rattle.std.specs.Prelude.{Option as Told, None, Some}
+use Rattle.sets.specs.Options.{option_of}
+use Prim.Native.Nat.{ℕ, zero, suc, ◌+◌, ◌*◌, ◌^◌, ◌<◌, ◌≤◌}
 use native.Mathlib.Omega.{arith}
 use native.Mathlib.Decide.{ℕ_discrete}
 use native.Mathlib.Numerals.{add-one}
@@ -26,30 +28,20 @@ use Rattle.klaim.specs.State as Spec
 use Rattle.klaim.specs.Engine.{value, under, permits}
 use Rattle.sets.proofs.Shared.{mem_single}
 use Rattle.threads.specs.declared.Thread.{Thread}
-use Rattle.threads.specs.View.{no_site, no_thread, binding, bindings_view, thread_view, threads_view}
+use Rattle.threads.specs.View.{no_thread, bindings_view, thread_view, threads_view}
 use Rattle.threads.proofs.Splice.{get_some, get_none, map_some, splice_set, map_splice, moved_all}
 
-pub bindings_long : (b : ℕ) (ss : List Site) → length (bindings_view b ss) ≡ 32
-unfolding bindings_view
-bindings_long b ss = length_table 32 (binding b ss)
-
-pub bindings_at : (b : ℕ) (ss : List Site) (u : ℕ) → u < 32 → get_or (bindings_view b ss) u none ≡ binding b ss u
-unfolding bindings_view
-bindings_at b ss u h = get_or_table 32 (binding b ss) u none h
-
--- nothing bound
-pub bindings_none : (ss : List Site) → bindings_view 0 ss ≡ Spec.unbound
-unfolding bindings_view binding table table_from
-bindings_none ss = same_table 32 (binding 0 ss) (λ u. none) none (λ u h. ap (λ (x : Bool). cond x (some (get_or ss u no_site).0) none) (has_none u))
-
 -- variable u, bound or not
-pub bound_yes : (b : ℕ) (ss : List Site) (u : ℕ) → u < 32 → mem u b ≡ true → (get_or ss u no_site).0 ≡ Option.get_or (get_or (bindings_view b ss) u none) 0
-unfolding binding
-bound_yes b ss u h t = sym (ap (λ (o : Option ℕ). Option.get_or o 0) (bindings_at b ss u h ∙ ap (λ (x : Bool). cond x (some (get_or ss u no_site).0) none) t))
+pub bound_at : (bs : List (Told Site)) (u : ℕ) {o : Told Site} → get_or bs u None ≡ o → get_or (bindings_view bs) u none ≡ option_of (λ s. s.0) o
+bound_at [] u e = ap (option_of (λ s. s.0)) e
+bound_at (b ∷ bs) zero e = ap (option_of (λ s. s.0)) e
+bound_at (b ∷ bs) (suc u) e = bound_at bs u e
 
-pub bound_no : (b : ℕ) (ss : List Site) (u : ℕ) → u < 32 → mem u b ≡ false → 0 ≡ Option.get_or (get_or (bindings_view b ss) u none) 0
-unfolding binding
-bound_no b ss u h t = sym (ap (λ (o : Option ℕ). Option.get_or o 0) (bindings_at b ss u h ∙ ap (λ (x : Bool). cond x (some (get_or ss u no_site).0) none) t))
+-- variable u bound to site s
+pub bound_view : (bs : List (Told Site)) (u : ℕ) (s : Site) → bindings_view (set bs u (Some s)) ≡ set (bindings_view bs) u (some s.0)
+bound_view [] u s = refl
+bound_view (b ∷ bs) zero s = refl
+bound_view (b ∷ bs) (suc u) s = ap (λ (l : Spec.Bindings). option_of (λ s. s.0) b ∷ l) (bound_view bs u s)
 
 -- the three sorts of a target or field
 module _ (l : ℕ) (e : Spec.Bindings) {x : Loc} where
@@ -64,27 +56,6 @@ module _ (l : ℕ) (e : Spec.Bindings) {x : Loc} where
   pub value_var : {u : Var} → x ≡ Use u → Option.get_or (get_or e u.0 none) 0 ≡ value l e x
   unfolding value
   value_var q = rw q
-
--- variable u bound to site s
-module _ (b : ℕ) (ss : List Site) (u : ℕ) (s : Site) (low : u < 32) (long : length ss ≡ 32) where
-  same_binding : (v : ℕ) → Dec (v ≡ u) → v < 32 → binding (join b (2 ^ u)) (set ss u s) v ≡ get_or (set (bindings_view b ss) u (some s.0)) v none
-  unfolding binding either
-  same_binding v (yes e) h =
-      rw e
-      (ap (λ (x : Bool). cond x (some (get_or (set ss u s) u no_site).0) none) (has_or b (2 ^ u) u ∙ or_r (mem u b) (mem u (2 ^ u)) (mem_single u u ∙ eq-eqb u))
-      ∙ ap (λ (x : Site). some x.0) (get_or-set_same ss u s no_site (omega arith))
-      ∙ sym (get_or-set_same (bindings_view b ss) u (some s.0) none (omega (arith, bindings_long b ss))))
-  same_binding v (no n) h =
-      ap (λ (x : Bool). cond x (some (get_or (set ss u s) v no_site).0) none) (has_or b (2 ^ u) v ∙ ap (either (mem v b)) (mem_single v u ∙ ne_eqb u v (λ e. n (sym e))) ∙ or_false (mem v b))
-      ∙ ap (λ (x : Site). cond (mem v b) (some x.0) none) (get_or-set_other ss u v s no_site n)
-      ∙ sym (bindings_at b ss v h)
-      ∙ sym (get_or-set_other (bindings_view b ss) u v (some s.0) none n)
-
-  pub bound_view : bindings_view (join b (2 ^ u)) (set ss u s) ≡ set (bindings_view b ss) u (some s.0)
-  bound_view =
-      ext_get_or none (bindings_view (join b (2 ^ u)) (set ss u s)) (set (bindings_view b ss) u (some s.0))
-      (bindings_long (join b (2 ^ u)) (set ss u s) ∙ sym (length-set (bindings_view b ss) u (some s.0) ∙ bindings_long b ss))
-      (λ v h. let k : v < 32 = omega (arith, bindings_long (join b (2 ^ u)) (set ss u s)) in bindings_at (join b (2 ^ u)) (set ss u s) v k ∙ same_binding v (ℕ_discrete v u) k)
 
 -- the list of threads: how many, and the one at place k
 pub threads_long : (n : ℕ) (items : List Thread) → n ≤ length items → length (threads_view n items) ≡ n
@@ -128,10 +99,10 @@ unfolding under
 under_view N k l b e q = rw q
 
 -- a right on site t
-module _ (N : Net) {hs : List ℕ} (th : Spec.Thread) (t right : ℕ) (e : N.homes ≡ hs) where
-  pub permit_yes : has (get_or th.policy t 0) right ≡ true → has (get_or hs (32 * th.site + t) 0) right ≡ permits N th t right
-  unfolding permits home ◌&◌
-  permit_yes q = rw (q, e)
+module _ (N : Net) (th : Spec.Thread) (t right : ℕ) where
+  pub permit_yes : has (get_or th.policy t 0) right ≡ true → has (home N th.site t) right ≡ permits N th t right
+  unfolding permits ◌&◌
+  permit_yes q = rw q
 
   pub permit_no : has (get_or th.policy t 0) right ≡ false → false ≡ permits N th t right
   unfolding permits ◌&◌
