@@ -47,8 +47,9 @@ fn line_sets<F: Fn(u8) -> u32>(lines: &Lines, q: u8, count: u8, first: u32, set:
 {
     let mut r = [0u32; 5];
     r[0] = first;
-    for j in 0..count {
-        r[j as usize + 1] = set(lines.field(q, j));
+    let fields = lines.fields(q);
+    for j in 0..count as usize {
+        r[j + 1] = set(fields[j]);
     }
     r
 }

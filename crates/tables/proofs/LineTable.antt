@@ -72,8 +72,8 @@ pub length_fields : (bs : List ℕ) (q : ℕ) → 10 * q + 10 ≤ length bs → 
 unfolding field_bytes
 length_fields bs q h = omega (arith, length-take 4 (drop (10 * q + 6) bs), length-drop (10 * q + 6) bs)
 
-pub length_first : (bs : List ℕ) (q k : ℕ) → 10 * q + 10 ≤ length bs → k ≤ 4 → length (take k (field_bytes bs q)) ≡ k
-length_first bs q k h l = omega (arith, length-take k (field_bytes bs q), length_fields bs q h)
+pub length_first : (bs : List ℕ) (q k : ℕ) → length (field_bytes bs q) ≡ 4 → k ≤ 4 → length (take k (field_bytes bs q)) ≡ k
+length_first bs q k h l = omega (arith, length-take k (field_bytes bs q))
 
 pub get_d_map : {A : Type 0} (f : ℕ → A) (d : A) (xs : List ℕ) (j : ℕ) → j < length xs → get_or (map f xs) j d ≡ f (get_or xs j 0)
 get_d_map f d [] j h = absurd (omega arith)
@@ -81,7 +81,7 @@ get_d_map f d (x ∷ xs) zero h = refl
 get_d_map f d (x ∷ xs) (suc j) h = get_d_map f d xs j (omega arith)
 
 -- `loc_of` for f in `out`, `slot_of` in `in` and `read`
-pub field_is : {A : Type 0} (f : ℕ → A) (d : A) (bs : List ℕ) (q k j : ℕ) → 10 * q + 10 ≤ length bs → k ≤ 4 → j < k → get_or (map f (take k (field_bytes bs q))) j d ≡ f (get_or (field_bytes bs q) j 0)
+pub field_is : {A : Type 0} (f : ℕ → A) (d : A) (bs : List ℕ) (q k j : ℕ) → length (field_bytes bs q) ≡ 4 → k ≤ 4 → j < k → get_or (map f (take k (field_bytes bs q))) j d ≡ f (get_or (field_bytes bs q) j 0)
 field_is f d bs q k j h l i = get_d_map f d (take k (field_bytes bs q)) j (omega (arith, length_first bs q k h l)) ∙ ap f (get_or-take k (field_bytes bs q) j 0 i)
 
 -- at most four fields are there

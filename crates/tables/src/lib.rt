@@ -1,13 +1,14 @@
 //! A net and an estimate as tables of numbers, and a process line taken out of its table.
 #![tactic(auto)]
 
-ghost use Rattle.std.specs.Prelude.{◌≡◌, List, ℕ, ◌<◌, ◌≤◌, min, length, get_or, take};
+ghost use Rattle.std.specs.Prelude.{◌≡◌, List, ℕ, ◌<◌, ◌≤◌, min, get_or, take};
 ghost use Rattle.klaim.specs.Net.{home, box, box_self, may, holds};
 ghost use Rattle.klaim.specs.Process.{line_at};
 ghost use Rattle.klaim.specs.State.{is_nil};
 ghost use Rattle.tables.specs.View.{Decoded, slot_of, loc_of, field_bytes, line_by, lines_of, root_at, net_view, estimate_view, action_line, LowLoc, LowSlot, LowAction};
 
 use klaim::{Loc, Site, Slot, Var};
+use std::array;
 
 // The limits of document 01.
 pub const SITES: usize = 32;
@@ -307,13 +308,12 @@ impl Lines {
         action_at(&self.bytes, q)
     }
 
-    // Field j of line q, as a byte.
-    pub fn field(&self, q: u8, j: u8) -> u8
-        requires { j < 4 }
-        ensures value { result ≡ get_or (field_bytes self.now.bytes q) j 0 }
-        ensures room { length (field_bytes self.now.bytes q) ≡ 4 }
+    // The four bytes of the fields of line q.
+    pub fn fields(&self, q: u8) -> [u8; 4]
+        ensures { result ≡ field_bytes self.now.bytes q }
     {
-        field_at(&self.bytes, q, j)
+        let at = LINE * (q as usize) + FIELD;
+        array::from_fn(|j| self.bytes[at + j])
     }
 
     // Whether line q is `nil`, or is none of them.

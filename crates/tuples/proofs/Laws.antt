@@ -79,25 +79,22 @@ Same th x v = eqb v (value th.site th.bindings x)
 abbrev pub Slots : List ℕ → ℕ → ℕ → List Slot
 Slots bs q k = map slot_of (take k (field_bytes bs q))
 
-pub slots_long : (bs : List ℕ) (q k : ℕ) → 10 * q + 10 ≤ length bs → k ≤ 4 → length (Slots bs q k) ≡ k
+pub slots_long : (bs : List ℕ) (q k : ℕ) → length (field_bytes bs q) ≡ 4 → k ≤ 4 → length (Slots bs q k) ≡ k
 slots_long bs q k h few = length-map (take k (field_bytes bs q)) slot_of ∙ length_first bs q k h few
 
 -- a template of k fields, of line q, and tuple m of k + 1 sites
 pub record Held (bs rows : List ℕ) (q k m : ℕ) : Type 0 where
   pub low : m < 256
   pub few : k ≤ 4
-  pub here : 10 * q + 10 ≤ length bs
+  pub four : length (field_bytes bs q) ≡ 4
   pub long : length rows ≡ 1536
   pub same_long : length (row_at rows m) ≡ suc k
-
-pub held : {bs rows : List ℕ} {q k m : ℕ} → m < 256 → k ≤ 4 → q < 256 → length bs ≡ 2560 → length rows ≡ 1536 → length (row_at rows m) ≡ suc k → Held bs rows q k m
-held low few h e long same_long = record { low = low; few = few; here = omega arith; long = long; same_long = same_long }
 
 module _ {bs rows : List ℕ} {q k m : ℕ} (w : Held bs rows q k m) where
   slots_from : (j : ℕ) → j < k → drop j (Slots bs q k) ≡ slot_of (get_or (field_bytes bs q) j 0) ∷ drop (suc j) (Slots bs q k)
   slots_from j h =
-      drop-cons (Slots bs q k) j (slot_of 0) (omega (arith, slots_long bs q k w.here w.few))
-      ∙ ap (λ (s : Slot). s ∷ drop (suc j) (Slots bs q k)) (field_is slot_of (slot_of 0) bs q k j w.here w.few h)
+      drop-cons (Slots bs q k) j (slot_of 0) (omega (arith, slots_long bs q k w.four w.few))
+      ∙ ap (λ (s : Slot). s ∷ drop (suc j) (Slots bs q k)) (field_is slot_of (slot_of 0) bs q k j w.four w.few h)
 
   row_from_lem : (j : ℕ) → j < suc k → drop j (row_at rows m) ≡ get_or rows (6 * m + 1 + j) 0 ∷ drop (suc j) (row_at rows m)
   row_from_lem j h =
@@ -117,7 +114,7 @@ module _ {bs rows : List ℕ} {q k m : ℕ} (w : Held bs rows q k m) where
 
   pub bind_end : (j : ℕ) (e : Bindings) (vs : List ℕ) → k ≤ j → bind_all (drop j (Slots bs q k)) vs e ≡ e
   unfolding bind_all
-  bind_end j e vs h = ap (λ (ss : List Slot). bind_all ss vs e) (drop_of_length-le (Slots bs q k) {i = j} (omega (arith, slots_long bs q k w.here w.few)))
+  bind_end j e vs h = ap (λ (ss : List Slot). bind_all ss vs e) (drop_of_length-le (Slots bs q k) {i = j} (omega (arith, slots_long bs q k w.four w.few)))
 
   -- `matches` from place j on
   module _ (f : Loc → ℕ → Bool) where
@@ -138,7 +135,7 @@ module _ {bs rows : List ℕ} {q k m : ℕ} (w : Held bs rows q k m) where
     unfolding matches
     match_end j h =
         ap₂ (λ (ss : List Slot) (vs : List ℕ). matches f ss vs)
-        (drop_of_length-le (Slots bs q k) {i = j} (omega (arith, slots_long bs q k w.here w.few)))
+        (drop_of_length-le (Slots bs q k) {i = j} (omega (arith, slots_long bs q k w.four w.few)))
         (drop_of_length-le (row_at rows m) {i = suc j} (omega (arith, w.same_long)))
 
   -- as the engine tests it
@@ -182,11 +179,6 @@ pub agree_other : (th : Thread) (g : Loc) (ss : List Slot) (vs : List ℕ) → (
 unfolding agrees
 agree_other th g ss vs h = matches_other (Same th) (Value g ∷ ss) vs h
 
--- a tuple that agrees has as many fields
-pub agree_long : (th : Thread) (g : Loc) (bs : List ℕ) (q k : ℕ) (vs : List ℕ) → 10 * q + 10 ≤ length bs → k ≤ 4 → agrees th g (Slots bs q k) vs ≡ true → length vs ≡ suc k
-unfolding agrees
-agree_long th g bs q k vs h few t = matches_long (Same th) (Value g ∷ Slots bs q k) vs t ∙ ap suc (slots_long bs q k h few)
-
 -- a tuple made of six bytes: how many sites, the first, then those of f
 pub record Made (f : ℕ → ℕ) (n v : ℕ) (l : List ℕ) (j : ℕ) : Type 0 where
   pub long : length l ≡ 6
@@ -227,7 +219,7 @@ made_more {f} {n} {v} {l} {j} {w} M h e = record {
 pub made_padded : {f : ℕ → ℕ} {n v : ℕ} {l : List ℕ} {j : ℕ} → Made f n v l j → n ≡ j + 1 → j ≤ 4 → Padded l
 made_padded M e h = record { few = omega (arith, M.head); zeros = λ i t. M.zeros i (omega (arith, M.head)) }
 
-pub made_all : (f : Loc → ℕ) (g : Loc) (bs : List ℕ) (q k : ℕ) {l : List ℕ} → 10 * q + 10 ≤ length bs → k ≤ 4 → Made (λ i. f (loc_of (get_or (field_bytes bs q) i 0))) (k + 1) (f g) l k → row_at l 0 ≡ map f (g ∷ map loc_of (take k (field_bytes bs q)))
+pub made_all : (f : Loc → ℕ) (g : Loc) (bs : List ℕ) (q k : ℕ) {l : List ℕ} → length (field_bytes bs q) ≡ 4 → k ≤ 4 → Made (λ i. f (loc_of (get_or (field_bytes bs q) i 0))) (k + 1) (f g) l k → row_at l 0 ≡ map f (g ∷ map loc_of (take k (field_bytes bs q)))
 made_all f g bs q k {l} h few M =
     ext_get_or 0 (row_at l 0) (f g ∷ map f (map loc_of (take k (field_bytes bs q)))) (long ∙ sym rest) (λ i t. at i (omega (arith, long)))
   where

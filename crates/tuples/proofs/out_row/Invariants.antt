@@ -1,4 +1,4 @@
-use Prim.Native.Nat.{◌≤◌, ◌-◌, ◌+◌}
+use Prim.Native.Nat.{◌+◌}
 use lib.ListN.{get_or}
 use Rattle.klaim.specs.Engine.{value}
 use Rattle.tables.specs.View.{loc_of, field_bytes}
@@ -7,7 +7,4 @@ use Rattle.tuples.proofs.Laws.{Made}
 use Rattle.tuples.proofs.out_row.Given as goal
 
 abbrev pub invariant-loop-j : goal.invariant-loop-j
-invariant-loop-j l = (l.j ≤ l.count) × (l.count ≤ 4) × Made (λ i. value (thread_view l.th).site (thread_view l.th).bindings (loc_of (get_or (field_bytes l.lines l.q) i 0))) (l.count + 1) (get_or l.initial.r 1 0) l.r l.j
-
-abbrev pub decreases-loop-j : goal.decreases-loop-j
-decreases-loop-j l = l.count - l.j
+invariant-loop-j l = Made (λ i. value (thread_view l.th).site (thread_view l.th).bindings (loc_of (get_or (field_bytes l.lines.bytes l.q) i 0))) (l.count + 1) (get_or l.initial.r 1 0) l.r l.j

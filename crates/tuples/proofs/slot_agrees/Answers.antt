@@ -8,10 +8,10 @@ pub value-requires : goal.value-requires
 value-requires c = low_value c.in-Value.is c.requires
 
 pub returns-in-Value : goal.returns-in-Value
-returns-in-Value c = ap (eqb c.args.v) c.value.ensures ∙ match_value (Same (thread_view c.args.th)) c.in-Value.is c.args.v
+returns-in-Value c = ap (eqb c.args.v) c.value.ensures ∙ match_value (Same (thread_view c.args.th.now)) c.in-Value.is c.args.v
 
 pub returns-in-Bind : goal.returns-in-Bind
-returns-in-Bind c = match_bind (Same (thread_view c.args.th)) c.in-Bind.is c.args.v
+returns-in-Bind c = match_bind (Same (thread_view c.args.th.now)) c.in-Bind.is c.args.v
 
 pub returns-in-Wildcard : goal.returns-in-Wildcard
-returns-in-Wildcard c = match_wildcard (Same (thread_view c.args.th)) c.in-Wildcard.is c.args.v
+returns-in-Wildcard c = match_wildcard (Same (thread_view c.args.th.now)) c.in-Wildcard.is c.args.v
