@@ -1,3 +1,3 @@
 pub mod View
 pub mod Fits
-pub mod Lent
+pub mod Table
