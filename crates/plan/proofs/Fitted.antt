@@ -1,85 +1,76 @@
--- The tables of the engine's state, and what its invariant gives of them and of a thread.
+-- What the state's invariant gives of its arrivals and of a thread.
 -- Assumes nothing.
-use mathlib.Core.Path.{◌≡◌, refl}
-use mathlib.Core.List.{List}
+use mathlib.Core.Path.{◌≡◌, sym, ap, subst, ◌∙◌}
+use mathlib.Core.Bool.{Bool, true, false}
 use mathlib.Core.Option.{some}
-use Prim.Native.Nat.{ℕ, ◌<◌, ◌≤◌}
+use Prim.Native.Nat.{ℕ, ◌<◌}
 use native.Mathlib.Omega.{arith}
 use lib.ListN.{length, get_or, get_elem?, take}
-use Rattle.sets.proofs.Lists.{All-in, All-get}
+use lib.Seq.{length-take-le, get_or-take}
+use Rattle.sets.specs.Bits.{mem}
+use Rattle.sets.proofs.Lists.{All-in, All-get, in_get_or}
 use Rattle.klaim.specs.Invariant.{ThreadOk}
-use Rattle.tables.specs.View.{estimate_view, lines_view}
-use Rattle.tables.proofs.LineTable.{length_view}
+use Rattle.klaim.specs.Process.{line_at, tree}
+use Rattle.klaim.specs.Report.{door}
+use Rattle.klaim.specs.Engine.{Plan, plan}
+use Rattle.door.specs.Parts.{uses_fit}
+use Rattle.door.proofs.Laws.{door_parts}
+use Rattle.tables.specs.declared.Action.{Action}
+use Rattle.tables.specs.View.{field_bytes, lines_of, action_line, InForm, Decoded}
+use Rattle.tables.proofs.LineTable.{length_view, line_view_lem}
 use Rattle.threads.specs.View.{no_thread, thread_view}
+use Rattle.threads.specs.declared.Thread.{Thread}
 use Rattle.threads.proofs.Laws.{thread_some}
 use Rattle.state.specs.declared.State.{State}
-use Rattle.state.specs.View.{ground_view, state_view}
+use Rattle.state.specs.View.{state_view}
 use Rattle.state.specs.Fits.{sound_at, Fits}
-use Rattle.state.specs.Lent.{Lent, Shown}
-use Rattle.state.proofs.Few.{sites_few, lines_few, arrivals_few, tuples_few}
-use Rattle.state.proofs.Lent.{with_rest, joined_fits, of_joined}
-use Rattle.plan.specs.Move.{Guests, Tables, Admits, Plannable}
+use Rattle.state.proofs.Few.{arrivals_few}
+use Rattle.plan.specs.Move.{Plannable}
+use Rattle.plan.proofs.Laws.{fits_sound, not_sound}
 
 module _ {st : State} (f : Fits st) where
-  pub guests : (l : ℕ) → l < st.net.size → Guests (state_view st) l st.lines st.nlines st.net.boxes st.estimate.binds st.arrivals st.narrivals st.sound
-  unfolding state_view ground_view estimate_view sound_at
-  guests l h = record { lines_is = refl; boxes_is = refl; binds_is = refl; arrivals_is = refl; sound_is = λ i k. f.sound_is i l k h }
-
-  pub tables : (l : ℕ) → l < st.net.size → Tables (state_view st) l st.lines st.nlines st.net.boxes st.estimate.binds st.arrivals st.narrivals st.sound st.tuples st.run.ntuples
+  -- the root at a place is a line
+  pub root_present : (i : ℕ) → i < st.arrivals.count → get_or st.arrivals.roots i 0 < st.lines.count
   unfolding state_view
-  tables l h = record { guests = guests l h; tuples_is = refl }
+  root_present i h =
+      let few = length-take-le st.arrivals.count st.arrivals.roots (omega (arith, f.arrivals_long, arrivals_few f)) in
+      subst (λ (r : ℕ). r < st.lines.count) (get_or-take st.arrivals.count st.arrivals.roots i 0 h)
+      (omega (arith, (All-in f.invariant.arrivals_ok (in_get_or 0 (take st.arrivals.count st.arrivals.roots) i (omega (arith, few)))).present, length_view st.lines.count st.lines.bytes))
 
-  pub admits : Admits st.lines st.nlines st.arrivals st.narrivals st.sound
+  pub root_form : (i : ℕ) → i < st.arrivals.count → InForm st.lines.count st.lines.bytes (get_or st.arrivals.roots i 0)
   unfolding state_view
-  admits = record {
-    lines_long = f.lines_long;
-    in_order = f.invariant.lines_ordered;
-    arrivals_long = f.arrivals_long;
-    arrivals_few = arrivals_few f;
-    arrivals_present = λ r e. omega (arith, (All-in f.invariant.arrivals_ok e).present, length_view st.nlines st.lines);
-    sets_long = f.sound_long;
-  }
+  root_form i h = record { in_order = f.invariant.lines_ordered; present = root_present i h }
 
-  module _ (long : length st.run.threads ≡ 64) (k : ℕ) (h : k < st.run.nthreads) where
-    pub thread_here : get_elem? (state_view st).threads k ≡ some (thread_view (get_or st.run.threads k no_thread))
+  -- the tests of the door, as the code makes them
+  module _ (i l d : ℕ) (h : i < st.arrivals.count) (k : l < st.net.size) {m : Bool} (e : m ≡ mem l (get_or st.arrivals.sound i 0)) where
+    pub arrival_sound : m ≡ true → {p : Bool} → p ≡ uses_fit (state_view st).net (state_view st).estimate d l (tree (state_view st).lines (get_or st.arrivals.roots i 0)) → p ≡ door (state_view st).net (state_view st).estimate d l (tree (state_view st).lines (get_or st.arrivals.roots i 0))
+    unfolding sound_at
+    arrival_sound t u =
+        u ∙ fits_sound _ _ (sym (f.sound_is i l h k) ∙ sym e ∙ t) ∙ door_parts (state_view st).net (state_view st).estimate d l (tree (state_view st).lines (get_or st.arrivals.roots i 0))
+
+    pub arrival_unsound : m ≡ false → false ≡ door (state_view st).net (state_view st).estimate d l (tree (state_view st).lines (get_or st.arrivals.roots i 0))
+    unfolding sound_at
+    arrival_unsound t =
+        not_sound _ _ (sym (f.sound_is i l h k) ∙ sym e ∙ t) ∙ door_parts (state_view st).net (state_view st).estimate d l (tree (state_view st).lines (get_or st.arrivals.roots i 0))
+
+  -- thread k can act
+  module _ (long : length st.threads.items ≡ 64) (k : ℕ) (h : k < st.threads.count) where
+    pub thread_here : get_elem? (state_view st).threads k ≡ some (thread_view (get_or st.threads.items k no_thread))
     unfolding state_view
-    thread_here = thread_some st.run.nthreads st.run.threads k h (omega (arith, long, f.threads_few))
+    thread_here = thread_some st.threads.count st.threads.items k h (omega (arith, long, f.threads_few))
 
-    thread_ok : ThreadOk st.net.size (lines_view st.nlines st.lines) (thread_view (get_or st.run.threads k no_thread))
-    unfolding state_view ground_view
+    thread_ok : ThreadOk st.net.size (lines_of st.lines) (thread_view (get_or st.threads.items k no_thread))
+    unfolding state_view
     thread_ok = All-get k f.invariant.threads_ok thread_here
 
-    pub thread_tables : Tables (state_view st) (get_or st.run.threads k no_thread).site.0 st.lines st.nlines st.net.boxes st.estimate.binds st.arrivals st.narrivals st.sound st.tuples st.run.ntuples
-    thread_tables = tables (get_or st.run.threads k no_thread).site.0 thread_ok.placed
+    pub plannable : Plannable st (get_or st.threads.items k no_thread)
+    plannable = record { fits = f; present = omega (arith, thread_ok.present, length_view st.lines.count st.lines.bytes); placed = thread_ok.placed }
 
-    pub plannable : Plannable st.lines st.nlines st.arrivals st.narrivals st.sound st.tuples st.run.ntuples (get_or st.run.threads k no_thread)
-    plannable = record {
-      admits = admits;
-      lines_few = lines_few f;
-      tuples_long = f.tuples_long;
-      tuples_few = tuples_few f;
-      thread_present = omega (arith, thread_ok.present, length_view st.nlines st.lines);
-      thread_placed = omega (arith, thread_ok.placed, sites_few f);
-    }
-
--- the same of tables that are lent
-module _ {size : ℕ} {boxes binds lines : List ℕ} {nlines : ℕ} {arrivals : List ℕ} {narrivals : ℕ} {sound : List ℕ} where
-  pub lent_admits : Shown size boxes binds lines nlines arrivals narrivals sound → Admits lines nlines arrivals narrivals sound
-  lent_admits s = admits (joined_fits s.state (with_rest s.state s.lent) s.fits)
-
-  pub shown_few : Shown size boxes binds lines nlines arrivals narrivals sound → size ≤ 32
-  shown_few s = omega (arith, s.size_is, sites_few s.fits)
-
-  module _ {st : State} (f : Fits st) (z : st.net.size ≡ size) (e : Lent st boxes binds lines nlines arrivals narrivals sound) where
-    pub lent_size : (state_view st).net.size ≡ size
-    unfolding state_view ground_view
-    lent_size = z
-
-    pub lent_arrivals : (state_view st).arrivals ≡ take narrivals arrivals
-    unfolding state_view
-    lent_arrivals = rw (e.arrivals_is, e.narrivals_is)
-
-    pub lent_guests : (l : ℕ) → l < size → Guests (state_view st) l lines nlines boxes binds arrivals narrivals sound
-    lent_guests l h =
-        let p = with_rest st e in
-        of_joined st p (λ (x : State). Guests (state_view x) l lines nlines boxes binds arrivals narrivals sound) (guests (joined_fits st p f) l (omega (arith, z)))
+-- the plan for the line that a thread stands on, from that for its action
+pub plan_at : {st : State} {th : Thread} → Plannable st th → {r : Action} → Decoded st.lines.bytes th.line r → {x : Action} → r ≡ x → (k m s : ℕ) {X : Plan} → X ≡ plan (state_view st) k (thread_view th) m s (action_line x (field_bytes st.lines.bytes th.line)) → X ≡ plan (state_view st) k (thread_view th) m s (line_at (state_view st).lines th.line)
+unfolding state_view
+plan_at {st} {th} p {r} d {x} e k m s h =
+    h ∙ sym (ap (plan (state_view st) k (thread_view th) m s)
+    (line_view_lem st.lines.count st.lines.bytes th.line p.present
+    ∙ sym d.line
+    ∙ ap (λ (x : Action). action_line x (field_bytes st.lines.bytes th.line)) e))

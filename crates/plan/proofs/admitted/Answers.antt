@@ -1,11 +1,28 @@
-use Rattle.plan.proofs.Laws.{root_form, guest_sound, guest_unsound}
+use native.Mathlib.Omega.{arith}
+use Rattle.state.specs.View.{state_view}
+use Rattle.state.proofs.Few.{sites_few, arrivals_few}
+use Rattle.plan.proofs.Fitted.{root_form, arrival_sound, arrival_unsound}
 use Rattle.plan.proofs.admitted.Goals as goal
 
+pub bounds-state-i : goal.bounds-state-i
+bounds-state-i c = omega (arith, c.requires.1, arrivals_few c.requires.0)
+
+pub offset_bounds-state-i : goal.offset_bounds-state-i
+offset_bounds-state-i c = omega (arith, c.requires.1, arrivals_few c.requires.0)
+
+pub bounds-state-i-2 : goal.bounds-state-i-2
+bounds-state-i-2 c = omega (arith, c.requires.1, arrivals_few c.requires.0)
+
+pub has_site-requires : goal.has_site-requires
+has_site-requires c = omega (arith, c.requires.2, sites_few c.requires.0)
+
 pub uses_fit-requires : goal.uses_fit-requires
-uses_fit-requires c = (root_form c.requires.0 c.args.i c.requires.1, c.requires.3, c.requires.2)
+uses_fit-requires c = (root_form c.requires.0 c.args.i c.requires.1, c.requires.3, omega (arith, c.requires.2, sites_few c.requires.0))
 
 pub returns-then-has_site : goal.returns-then-has_site
-returns-then-has_site c = λ st w. guest_sound w c.args.d c.args.i c.requires.1 c.has_site.ensures c.if-has_site.true c.uses_fit.ensures
+unfolding state_view
+returns-then-has_site c = arrival_sound c.requires.0 c.args.i c.args.l c.args.d c.requires.1 c.requires.2 c.has_site.ensures c.if-has_site.true c.uses_fit.ensures
 
 pub returns : goal.returns
-returns c = λ st w. guest_unsound w c.args.d c.args.i c.requires.1 c.has_site.ensures c.if-has_site.false
+unfolding state_view
+returns c = arrival_unsound c.requires.0 c.args.i c.args.l c.args.d c.requires.1 c.requires.2 c.has_site.ensures c.if-has_site.false

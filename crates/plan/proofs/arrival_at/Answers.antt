@@ -1,31 +1,30 @@
-use mathlib.Core.Path.{◌≡◌, refl, sym, ◌∙◌}
-use Prim.Native.Nat.{suc, ◌<◌, ◌+◌}
+use mathlib.Core.Path.{◌≡◌, sym, ◌∙◌}
+use borrow.Author.Rules.{rules}
+use Prim.Native.Nat.{suc, ◌+◌}
 use native.Mathlib.Omega.{arith}
-use borrow.Author.Tests.{lt-ltb, le-ltb}
-use lib.ListN.{get_or}
+use lib.ListN.{length, get_or}
 use Rattle.plan.proofs.Laws.{root_here, root_later, root_none}
 use Rattle.plan.proofs.arrival_at.Goals as goal
 
-pub loop-i-init : goal.loop-i-init
-loop-i-init c = (omega arith, omega arith, refl)
-
-pub returns-then-wide-r : goal.returns-then-wide-r
-returns-then-wide-r c =
+pub returns-then-arrivals-i : goal.returns-then-arrivals-i
+returns-then-arrivals-i c =
     let at = c.loop-i in
-    let ar = c.args in
-    let h : at.i < ar.n = omega arith in
-    let e : get_or ar.arrivals.now at.i 0 ≡ ar.r = omega (arith, c.wide.ensures) in
-    (omega arith, lt-ltb at.i ar.n h ∙ sym (at.invariant.2 ∙ root_here ar.arrivals.now ar.n ar.r at.invariant.1 at.i h (sym e)), λ z. e)
+    let rs = c.args.arrivals.now in
+    let long : length rs.roots ≡ 256 = search rules in
+    let e : get_or rs.roots at.i 0 ≡ c.args.r = c.if-arrivals-i.true in
+    (omega arith, e, at.invariant ∙ root_here rs.roots rs.count c.args.r (omega (arith, long, c.requires)) at.i (omega arith) (sym e))
 
 pub loop-i-preserved : goal.loop-i-preserved
 loop-i-preserved c =
     let at = c.loop-i in
-    let ar = c.args in
-    let e : suc at.i ≡ at.i + 1 = omega arith in
-    (omega arith, at.invariant.1, at.invariant.2 ∙ root_later ar.arrivals.now ar.n ar.r at.invariant.1 at.i (omega arith) (λ q. omega (arith, c.wide.ensures)) (at.i + 1) e)
+    let rs = c.args.arrivals.now in
+    let long : length rs.roots ≡ 256 = search rules in
+    let s : suc at.i ≡ at.i + 1 = omega arith in
+    at.invariant ∙ root_later rs.roots rs.count c.args.r (omega (arith, long, c.requires)) at.i (omega arith) (λ q. c.if-arrivals-i.false (sym q)) (at.i + 1) s
 
 pub returns : goal.returns
 returns c =
     let at = c.loop-i in
-    let ar = c.args in
-    (omega arith, le-ltb ar.n ar.n (omega arith) ∙ sym (at.invariant.2 ∙ root_none ar.arrivals.now ar.n ar.r at.invariant.1 at.i (omega arith)), λ z. absurd (omega arith))
+    let rs = c.args.arrivals.now in
+    let long : length rs.roots ≡ 256 = search rules in
+    at.invariant ∙ root_none rs.roots rs.count c.args.r (omega (arith, long, c.requires)) at.i (omega (arith, at.auto.i-end))

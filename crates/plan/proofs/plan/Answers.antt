@@ -1,78 +1,61 @@
-use native.Mathlib.Omega.{arith}
+use mathlib.Core.Path.{refl, subst}
 use Rattle.klaim.specs.Engine.{plan}
-use Rattle.tables.specs.View.{action_line}
-use Rattle.plan.proofs.Laws.{plan_at, low_of}
+use Rattle.tables.specs.View.{action_line, LowAction}
+use Rattle.state.specs.View.{state_view}
+use Rattle.state.proofs.Few.{tuples_few}
+use Rattle.plan.proofs.Fitted.{plan_at}
 use Rattle.plan.proofs.plan.Goals as goal
 
-pub plan_out-requires : goal.plan_out-requires
-plan_out-requires c =
-    let low = low_of c.action_at.ensures c.in-Out.is in
-    (low.1, c.requires.admits.lines_long, low.0)
+pub plan_get-requires : goal.plan_get-requires
+plan_get-requires c =
+    let low = subst LowAction c.in-In.is c.action.ensures.low in
+    (tuples_few c.requires.fits, low.1, low.0)
 
-pub plan_in-requires : goal.plan_in-requires
-plan_in-requires c =
-    let low = low_of c.action_at.ensures c.in-In.is in
-    (c.requires.tuples_few, low.1, c.requires.admits.lines_long, c.requires.tuples_long, low.0)
+pub plan_get-requires-in-Read : goal.plan_get-requires-in-Read
+plan_get-requires-in-Read c =
+    let low = subst LowAction c.in-Read.is c.action.ensures.low in
+    (tuples_few c.requires.fits, low.1, low.0)
 
-pub plan_read-requires : goal.plan_read-requires
-plan_read-requires c =
-    let low = low_of c.action_at.ensures c.in-Read.is in
-    (c.requires.tuples_few, low.1, c.requires.admits.lines_long, c.requires.tuples_long, low.0)
-
-pub plan_eval-requires : goal.plan_eval-requires
-plan_eval-requires c =
-    let low = low_of c.action_at.ensures c.in-Eval.is in
-    low
-
-pub plan_accept-requires : goal.plan_accept-requires
-plan_accept-requires c =
-    let low = low_of c.action_at.ensures c.in-Accept.is in
-    (c.requires.admits, c.requires.thread_placed, low)
-
-pub returns-in-Nil : goal.returns-in-Nil
+pub returns-in-Nil-clause-value : goal.returns-in-Nil-clause-value
 unfolding plan action_line
-returns-in-Nil c =
-    let ar = c.args in
-    record { result_value = (λ st k w. plan_at c.requires w c.action_at.ensures c.in-Nil.is k ar.m ar.r (c.plan_stop.ensures.result_value st k ar.m)); right_nonzero = (c.plan_stop.ensures.right_nonzero.0, (λ q. omega (arith, c.plan_stop.ensures.right_nonzero.1)), c.plan_stop.ensures.right_nonzero.2) }
+returns-in-Nil-clause-value c = λ k. plan_at c.requires c.action.ensures c.in-Nil.is k c.args.m c.args.r (refl)
 
-pub returns-in-Par : goal.returns-in-Par
+pub returns-in-Par-clause-value : goal.returns-in-Par-clause-value
 unfolding plan action_line
-returns-in-Par c =
-    let ar = c.args in
-    record { result_value = (λ st k w. plan_at c.requires w c.action_at.ensures c.in-Par.is k ar.m ar.r (c.plan_par.ensures.result_value st k ar.m ar.r)); right_nonzero = (c.plan_par.ensures.right_nonzero.0, (λ q. omega (arith, c.plan_par.ensures.right_nonzero.1)), c.plan_par.ensures.right_nonzero.2) }
+returns-in-Par-clause-value c = λ k. plan_at c.requires c.action.ensures c.in-Par.is k c.args.m c.args.r (c.plan_par.ensures.value (state_view c.args.state.now) k c.args.m c.args.r)
 
-pub returns-in-Rep : goal.returns-in-Rep
-unfolding plan action_line
-returns-in-Rep c =
-    let ar = c.args in
-    record { result_value = (λ st k w. plan_at c.requires w c.action_at.ensures c.in-Rep.is k ar.m ar.r (c.plan_rep.ensures.result_value st k ar.m ar.r)); right_nonzero = (c.plan_rep.ensures.right_nonzero.0, (λ q. omega (arith, c.plan_rep.ensures.right_nonzero.1)), c.plan_rep.ensures.right_nonzero.2) }
+pub returns-in-Par-clause-possible : goal.returns-in-Par-clause-possible
+returns-in-Par-clause-possible c = c.plan_par.ensures.possible c.args.m c.args.state.now.tuples.count
 
-pub returns-in-Out : goal.returns-in-Out
+pub returns-in-Rep-clause-value : goal.returns-in-Rep-clause-value
 unfolding plan action_line
-returns-in-Out c =
-    let ar = c.args in
-    record { result_value = (λ st k w. plan_at c.requires w c.action_at.ensures c.in-Out.is k ar.m ar.r (c.plan_out.ensures.result_value st k ar.m ar.r)); right_nonzero = (c.plan_out.ensures.right_nonzero.0, (λ q. omega (arith, c.plan_out.ensures.right_nonzero.1)), c.plan_out.ensures.right_nonzero.2) }
+returns-in-Rep-clause-value c = λ k. plan_at c.requires c.action.ensures c.in-Rep.is k c.args.m c.args.r (c.plan_rep.ensures.value (state_view c.args.state.now) k c.args.m c.args.r)
 
-pub returns-in-In : goal.returns-in-In
-unfolding plan action_line
-returns-in-In c =
-    let ar = c.args in
-    record { result_value = (λ st k w. plan_at c.requires w c.action_at.ensures c.in-In.is k ar.m ar.r (c.plan_in.ensures.result_value st k ar.r w.tuples_is)); right_nonzero = c.plan_in.ensures.right_nonzero }
+pub returns-in-Rep-clause-possible : goal.returns-in-Rep-clause-possible
+returns-in-Rep-clause-possible c = c.plan_rep.ensures.possible c.args.m c.args.state.now.tuples.count
 
-pub returns-in-Read : goal.returns-in-Read
+pub returns-in-Out-clause-value : goal.returns-in-Out-clause-value
 unfolding plan action_line
-returns-in-Read c =
-    let ar = c.args in
-    record { result_value = (λ st k w. plan_at c.requires w c.action_at.ensures c.in-Read.is k ar.m ar.r (c.plan_read.ensures.result_value st k ar.r w.tuples_is)); right_nonzero = c.plan_read.ensures.right_nonzero }
+returns-in-Out-clause-value c = λ k. plan_at c.requires c.action.ensures c.in-Out.is k c.args.m c.args.r (c.plan_out.ensures.value (state_view c.args.state.now) k c.args.m c.args.r)
 
-pub returns-in-Eval : goal.returns-in-Eval
-unfolding plan action_line
-returns-in-Eval c =
-    let ar = c.args in
-    record { result_value = (λ st k w. plan_at c.requires w c.action_at.ensures c.in-Eval.is k ar.m ar.r (c.plan_eval.ensures.result_value st k ar.m ar.r w.guests.boxes_is)); right_nonzero = (c.plan_eval.ensures.right_nonzero.0, (λ q. omega (arith, c.plan_eval.ensures.right_nonzero.1)), c.plan_eval.ensures.right_nonzero.2) }
+pub returns-in-Out-clause-possible : goal.returns-in-Out-clause-possible
+returns-in-Out-clause-possible c = c.plan_out.ensures.possible c.args.m c.args.state.now.tuples.count
 
-pub returns-in-Accept : goal.returns-in-Accept
+pub returns-in-In-clause-value : goal.returns-in-In-clause-value
 unfolding plan action_line
-returns-in-Accept c =
-    let ar = c.args in
-    record { result_value = (λ st k w. plan_at c.requires w c.action_at.ensures c.in-Accept.is k ar.m ar.r (c.plan_accept.ensures.result_value st k ar.m w.guests)); right_nonzero = (c.plan_accept.ensures.right_nonzero.0, (λ q. omega (arith, c.plan_accept.ensures.right_nonzero.1)), c.plan_accept.ensures.right_nonzero.2) }
+returns-in-In-clause-value c = λ k. plan_at c.requires c.action.ensures c.in-In.is k c.args.m c.args.r (c.plan_get.ensures.value k)
+
+pub returns-in-Read-clause-value : goal.returns-in-Read-clause-value
+unfolding plan action_line
+returns-in-Read-clause-value c = λ k. plan_at c.requires c.action.ensures c.in-Read.is k c.args.m c.args.r (c.plan_get-in-Read.ensures.value k)
+
+pub returns-in-Eval-clause-value : goal.returns-in-Eval-clause-value
+unfolding plan action_line
+returns-in-Eval-clause-value c = λ k. plan_at c.requires c.action.ensures c.in-Eval.is k c.args.m c.args.r (c.plan_eval.ensures.value k c.args.m c.args.r)
+
+pub returns-in-Eval-clause-possible : goal.returns-in-Eval-clause-possible
+returns-in-Eval-clause-possible c = c.plan_eval.ensures.possible c.args.m c.args.state.now.tuples.count
+
+pub returns-in-Accept-clause-value : goal.returns-in-Accept-clause-value
+unfolding plan action_line
+returns-in-Accept-clause-value c = λ k. plan_at c.requires c.action.ensures c.in-Accept.is k c.args.m c.args.r (c.plan_accept.ensures.value k c.args.m)

@@ -1,38 +1,51 @@
-use mathlib.Core.Path.{sym, ap, ◌∙◌}
+use mathlib.Core.Path.{sym, ap, subst, ◌∙◌}
 use mathlib.Core.Bool.{true}
-use Prim.Native.Nat.{ℕ, ◌<◌}
-use borrow.Author.Tests.{lt-ltb, le-ltb}
+use Prim.Native.Nat.{ℕ}
+use native.Mathlib.Omega.{arith}
+use Rattle.std.specs.Prelude.{Option}
+use Rattle.klaim.specs.Process.{tree}
+use Rattle.klaim.specs.Report.{door}
 use Rattle.klaim.specs.Engine.{accept_plan}
 use Rattle.threads.specs.View.{thread_view}
-use Rattle.plan.proofs.Laws.{guest_known, guest_door, accept_unknown, accept_shut, accept_open}
+use Rattle.state.specs.View.{state_view}
+use Rattle.state.proofs.Few.{arrivals_few}
+use Rattle.plan.specs.Move.{Placed}
+use Rattle.plan.proofs.Laws.{placed_none, accept_unknown, accept_shut, accept_open}
 use Rattle.plan.proofs.plan_accept.Goals as goal
 
-pub returns-then-narrivals-i : goal.returns-then-narrivals-i
-returns-then-narrivals-i c =
-    let ar = c.args in
-    let i = c.arrival_at-i in
-    record { result_value = (λ st k m w. c.plan_stop.ensures.result_value st k m ∙ accept_unknown st k m ar.r _ _ _ (guest_known w ar.r (sym i.ensures.1 ∙ le-ltb i.result ar.narrivals c.if-narrivals-i.true))); right_nonzero = c.plan_stop.ensures.right_nonzero }
+pub arrival_at-requires : goal.arrival_at-requires
+arrival_at-requires c = arrivals_few c.requires.0
 
-pub returns-then-admitted : goal.returns-then-admitted
-returns-then-admitted c =
-    let ar = c.args in
-    let i = c.arrival_at-i in
-    let h : i.result < ar.narrivals = c.if-narrivals-i.false in
-    let q = i.ensures.2 h in record {
-      result_value = (λ st k m w.
-          c.plan_guest.ensures.result_value st k m w.boxes_is
-          ∙ ap (λ (x : ℕ). accept_plan st k (thread_view ar.th) x ar.a ar.d true true) q
-          ∙ accept_open st k m ar.r _ _ _ (guest_known w ar.r (sym i.ensures.1 ∙ lt-ltb i.result ar.narrivals h)) (guest_door w ar.d i.result ar.r q (c.admitted.ensures st w) c.if-admitted.true));
-      right_nonzero = c.plan_guest.ensures.right_nonzero;
-    }
+pub admitted-requires : goal.admitted-requires
+admitted-requires c =
+    let at = c.args.state.now.arrivals in
+    let p = subst (λ (o : Option ℕ). Placed at.roots at.count c.args.r o) c.in-Some.is c.arrival_at.ensures in
+    (c.requires.0, p.0, c.requires.1, c.requires.2)
 
-pub returns : goal.returns
-returns c =
-    let ar = c.args in
-    let i = c.arrival_at-i in
-    let h : i.result < ar.narrivals = c.if-narrivals-i.false in record {
-      result_value = (λ st k m w.
-          c.plan_stop-2.ensures.result_value st k m
-          ∙ accept_shut st k m ar.r _ _ _ (guest_known w ar.r (sym i.ensures.1 ∙ lt-ltb i.result ar.narrivals h)) (guest_door w ar.d i.result ar.r (i.ensures.2 h) (c.admitted.ensures st w) c.if-admitted.false));
-      right_nonzero = c.plan_stop-2.ensures.right_nonzero;
-    }
+pub returns-in_default-clause-value : goal.returns-in_default-clause-value
+unfolding state_view
+returns-in_default-clause-value c = λ k m. accept_unknown (state_view c.args.state.now) k m c.args.r (thread_view c.args.th) c.args.a c.args.d (placed_none c.args.state.now.arrivals.roots c.args.state.now.arrivals.count c.args.r c.arrival_at.ensures c.in_default.not-Some)
+
+pub returns-then-not-admitted-clause-value : goal.returns-then-not-admitted-clause-value
+unfolding state_view
+returns-then-not-admitted-clause-value c =
+    let at = c.args.state.now.arrivals in
+    let p = subst (λ (o : Option ℕ). Placed at.roots at.count c.args.r o) c.in-Some.is c.arrival_at.ensures in
+    let st = state_view c.args.state.now in
+    λ k m. accept_shut st k m c.args.r (thread_view c.args.th) c.args.a c.args.d p.2 (ap (λ (x : ℕ). door st.net st.estimate c.args.d c.args.th.site.0 (tree st.lines x)) (sym p.1) ∙ sym c.admitted.ensures ∙ c.if-not-admitted.true)
+
+pub bounds-state-i : goal.bounds-state-i
+bounds-state-i c =
+    let at = c.args.state.now.arrivals in
+    let p = subst (λ (o : Option ℕ). Placed at.roots at.count c.args.r o) c.in-Some.is c.arrival_at.ensures in
+    omega (arith, p.0, arrivals_few c.requires.0)
+
+pub returns-clause-value : goal.returns-clause-value
+unfolding state_view
+returns-clause-value c =
+    let at = c.args.state.now.arrivals in
+    let p = subst (λ (o : Option ℕ). Placed at.roots at.count c.args.r o) c.in-Some.is c.arrival_at.ensures in
+    let st = state_view c.args.state.now in
+    λ k m. c.plan_guest.ensures.value k m
+    ∙ ap (λ (x : ℕ). accept_plan st k (thread_view c.args.th) x c.args.a c.args.d true true) p.1
+    ∙ accept_open st k m c.args.r (thread_view c.args.th) c.args.a c.args.d p.2 (ap (λ (x : ℕ). door st.net st.estimate c.args.d c.args.th.site.0 (tree st.lines x)) (sym p.1) ∙ sym c.admitted.ensures ∙ c.if-not-admitted.false)

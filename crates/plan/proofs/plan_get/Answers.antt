@@ -1,26 +1,17 @@
-use mathlib.Core.Path.{sym, ◌∙◌}
+use mathlib.Core.Path.{sym, refl, ◌∙◌}
 use native.Mathlib.Omega.{arith}
-use Rattle.tuples.proofs.Laws.{agree_long}
+use Rattle.state.specs.View.{state_view}
 use Rattle.plan.proofs.Laws.{get_none, get_other, get_some}
 use Rattle.plan.proofs.plan_get.Goals as goal
 
-pub returns-then-n-m : goal.returns-then-n-m
-returns-then-n-m c =
-    let ar = c.args in
-    record { result_value = (λ st k e. c.plan_stop.ensures.result_value st k ar.m ∙ get_none st k ar.m 0 _ _ _ _ _ _ ar.n ar.tuples.now e (omega arith)); right_nonzero = (c.plan_stop.ensures.right_nonzero.0, (λ q. omega (arith, c.plan_stop.ensures.right_nonzero.1)), c.plan_stop.ensures.right_nonzero.2) }
+pub returns-then-state-m-clause-value : goal.returns-then-state-m-clause-value
+unfolding state_view
+returns-then-state-m-clause-value c = λ k. get_none (state_view c.args.state.now) k c.args.m 0 _ _ _ _ _ _ c.args.state.now.tuples.count c.args.state.now.tuples.bytes refl (omega arith)
 
-pub plan_taken-requires : goal.plan_taken-requires
-plan_taken-requires c =
-    let ar = c.args in
-    (omega arith, c.requires.1, c.requires.2, c.requires.3, agree_long _ ar.target ar.lines.now _ ar.count _ (omega arith) c.requires.1 (sym c.agrees.ensures ∙ c.if-agrees.true), c.requires.4, c.requires.5)
+pub returns-then-not-agrees-clause-value : goal.returns-then-not-agrees-clause-value
+unfolding state_view
+returns-then-not-agrees-clause-value c = λ k. get_other (state_view c.args.state.now) k c.args.m 0 _ _ _ _ _ _ c.args.state.now.tuples.count c.args.state.now.tuples.bytes refl (omega arith) (sym c.agrees.ensures.value ∙ c.if-not-agrees.true)
 
-pub returns-then-agrees : goal.returns-then-agrees
-returns-then-agrees c =
-    let ar = c.args in
-    let low = c.if-n-m.false in
-    record { result_value = (λ st k e. c.plan_taken.ensures.result_value st k ∙ get_some st k ar.m 0 _ _ _ _ _ _ ar.n ar.tuples.now e (omega arith) (sym c.agrees.ensures ∙ c.if-agrees.true)); right_nonzero = (omega (arith, c.plan_taken.ensures.right_value.0, c.requires.6), (λ q. omega arith), c.plan_taken.ensures.right_value.1) }
-
-pub returns : goal.returns
-returns c =
-    let ar = c.args in
-    record { result_value = (λ st k e. c.plan_stop-2.ensures.result_value st k ar.m ∙ get_other st k ar.m 0 _ _ _ _ _ _ ar.n ar.tuples.now e (omega arith) (sym c.agrees.ensures ∙ c.if-agrees.false)); right_nonzero = (c.plan_stop-2.ensures.right_nonzero.0, (λ q. omega (arith, c.plan_stop-2.ensures.right_nonzero.1)), c.plan_stop-2.ensures.right_nonzero.2) }
+pub returns-clause-value : goal.returns-clause-value
+unfolding state_view
+returns-clause-value c = λ k. c.plan_taken.ensures.value (state_view c.args.state.now) k ∙ get_some (state_view c.args.state.now) k c.args.m 0 _ _ _ _ _ _ c.args.state.now.tuples.count c.args.state.now.tuples.bytes refl (omega arith) (sym c.agrees.ensures.value ∙ c.if-not-agrees.false)
