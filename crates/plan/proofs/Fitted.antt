@@ -5,7 +5,7 @@ use mathlib.Core.Bool.{Bool, true, false}
 use mathlib.Core.Option.{some}
 use Prim.Native.Nat.{ℕ, ◌<◌}
 use native.Mathlib.Omega.{arith}
-use lib.ListN.{length, get_or, get_elem?, take}
+use lib.ListN.{get_or, get_elem?, take}
 use lib.Seq.{length-take-le, get_or-take}
 use Rattle.sets.specs.Bits.{mem}
 use Rattle.sets.proofs.Lists.{All-in, All-get, in_get_or}
@@ -54,10 +54,10 @@ module _ {st : State} (f : Fits st) where
         not_sound _ _ (sym (f.sound_is i l h k) ∙ sym e ∙ t) ∙ door_parts (state_view st).net (state_view st).estimate d l (tree (state_view st).lines (get_or st.arrivals.roots i 0))
 
   -- thread k can act
-  module _ (long : length st.threads.items ≡ 64) (k : ℕ) (h : k < st.threads.count) where
+  module _ (k : ℕ) (h : k < st.threads.count) where
     pub thread_here : get_elem? (state_view st).threads k ≡ some (thread_view (get_or st.threads.items k no_thread))
     unfolding state_view
-    thread_here = thread_some st.threads.count st.threads.items k h (omega (arith, long, f.threads_few))
+    thread_here = thread_some st.threads.count st.threads.items k h (omega (arith, f.threads_long, f.threads_few))
 
     thread_ok : ThreadOk st.net.size (lines_of st.lines) (thread_view (get_or st.threads.items k no_thread))
     unfolding state_view

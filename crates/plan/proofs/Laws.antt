@@ -76,23 +76,33 @@ module _ (st : Spec.State) (k m r : ℕ) (th : Spec.Thread) where
     unfolding get_plan to
     get_some h q = rw (e, row_some n bs m h, q)
 
--- the arrivals' roots from place i on
+-- a test of the first n elements of an array, from place i on
+module _ (f : ℕ → Bool) (xs : List ℕ) (n : ℕ) (long : n ≤ length xs) (i : ℕ) where
+  from_place : (j : ℕ) → any f (drop j (take n xs)) ≡ any f (drop j (table n (λ k. get_or xs k 0)))
+  from_place j = ap (λ (rs : List ℕ). any f (drop j rs)) (list_table 0 n xs long)
+
+  pub one_here : i < n → f (get_or xs i 0) ≡ true → any f (drop i (take n xs)) ≡ true
+  one_here h e = from_place i ∙ any_yes f n (λ k. get_or xs k 0) i h e
+
+  pub one_later : i < n → f (get_or xs i 0) ≡ false → (j : ℕ) → suc i ≡ j → any f (drop i (take n xs)) ≡ any f (drop j (take n xs))
+  one_later h e j s = from_place i ∙ any_no f n (λ k. get_or xs k 0) i j h s e ∙ sym (from_place j)
+
+  pub one_nowhere : n ≤ i → any f (drop i (take n xs)) ≡ false
+  one_nowhere h = from_place i ∙ any_end f n (λ k. get_or xs k 0) i h
+
+-- the root r among them
 module _ (xs : List ℕ) (n r : ℕ) (long : n ≤ length xs) (i : ℕ) where
-  roots : take n xs ≡ table n (λ k. get_or xs k 0)
-  roots = list_table 0 n xs long
-
-  from_place : (j : ℕ) → among (drop j (take n xs)) r ≡ any (eqb r) (drop j (table n (λ k. get_or xs k 0)))
-  unfolding among
-  from_place j = ap (λ (rs : List ℕ). any (eqb r) (drop j rs)) roots
-
   pub root_here : i < n → r ≡ get_or xs i 0 → among (drop i (take n xs)) r ≡ true
-  root_here h e = from_place i ∙ any_yes (eqb r) n (λ k. get_or xs k 0) i h (eq-eqb r (get_or xs i 0) e)
+  unfolding among
+  root_here h e = one_here (eqb r) xs n long i h (eq-eqb r (get_or xs i 0) e)
 
   pub root_later : i < n → (r ≡ get_or xs i 0 → ⊥) → (j : ℕ) → suc i ≡ j → among (drop i (take n xs)) r ≡ among (drop j (take n xs)) r
-  root_later h e j s = from_place i ∙ any_no (eqb r) n (λ k. get_or xs k 0) i j h s (ne_eqb r (get_or xs i 0) e) ∙ sym (from_place j)
+  unfolding among
+  root_later h e j s = one_later (eqb r) xs n long i h (ne_eqb r (get_or xs i 0) e) j s
 
   pub root_none : n ≤ i → among (drop i (take n xs)) r ≡ false
-  root_none h = from_place i ∙ any_end (eqb r) n (λ k. get_or xs k 0) i h
+  unfolding among
+  root_none h = one_nowhere (eqb r) xs n long i h
 
 -- where no place is told, the root is not among them
 pub placed_none : (rs : List ℕ) (n r : ℕ) {o : Prelude.Option ℕ} → Placed rs n r o → ((i : ℕ) → o ≡ Prelude.Some i → ⊥) → among (take n rs) r ≡ false

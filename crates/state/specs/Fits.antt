@@ -19,6 +19,7 @@ pub record Fits (st : State) : Type 0 where
   pub arrivals_long : length st.arrivals.roots ≡ 256
   pub sound_long : length st.arrivals.sound ≡ 256
   pub tuples_long : length st.tuples.bytes ≡ 1536
+  pub threads_long : length st.threads.items ≡ 64
   pub threads_few : st.threads.count ≤ 64
   pub arrivals_few : st.arrivals.count ≤ st.lines.count
   pub sound_is : (i l : ℕ) → i < st.arrivals.count → l < st.net.size → mem l (get_or st.arrivals.sound i 0) ≡ sound_at st i l

@@ -1,85 +1,60 @@
-use mathlib.Core.Path.{refl}
-use Rattle.tables.specs.View.{action_line}
+use mathlib.Core.Logic.{inl, inr}
+use mathlib.Core.Path.{◌≡◌, refl, sym, ap, subst, ◌∙◌}
+use Prim.Native.Nat.{ℕ}
+use lib.Dec.{ltb}
+use lib.ListN.{length}
+use Rattle.tables.specs.View.{action_line, LowAction, InForm}
 use Rattle.tables.proofs.LineTable.{next}
-use Rattle.plan.proofs.Laws.{low_of}
-use Rattle.ready.specs.Runs.{runs}
-use Rattle.ready.proofs.Laws.{room_of, tuples_of, more_of, thread_form, runs_at}
+use Rattle.tuples.proofs.Rows.{rows_long}
+use Rattle.state.specs.View.{state_view}
+use Rattle.state.proofs.Few.{tuples_few, threads_count}
+use Rattle.ready.specs.Runs.{room, runs}
+use Rattle.ready.proofs.Laws.{runs_at}
 use Rattle.ready.proofs.can_step.Goals as goal
 
 pub some_agrees-requires : goal.some_agrees-requires
-some_agrees-requires c =
-    let p = c.requires.0 in
-    let low = low_of c.action_at.ensures c.in-In.is in
-    (p.tuples_few, low.1, p.admits.lines_long, p.tuples_long, low.0)
-
-pub some_agrees-requires-in-Read : goal.some_agrees-requires-in-Read
-some_agrees-requires-in-Read c =
-    let p = c.requires.0 in
-    let low = low_of c.action_at.ensures c.in-Read.is in
-    (p.tuples_few, low.1, p.admits.lines_long, p.tuples_long, low.0)
-
-pub some_guest-requires : goal.some_guest-requires
-some_guest-requires c =
-    let p = c.requires.0 in
-    let nx = next (thread_form p) c.action_at.ensures c.in-Accept.is in
-    (p.admits, p.thread_placed, nx.1, c.requires.1)
+some_agrees-requires c = elim c.in-In.is [
+  | inl e ↦ (let low = subst LowAction e.1 c.action.ensures.low in (tuples_few c.requires.fits, low.1, low.0))
+  | inr e ↦ (let low = subst LowAction e.1 c.action.ensures.low in (tuples_few c.requires.fits, low.1, low.0))
+]
 
 pub returns-in-Nil : goal.returns-in-Nil
 unfolding runs action_line
-returns-in-Nil c =
-    let p = c.requires.0 in
-    λ st w k. runs_at p w c.action_at.ensures c.in-Nil.is refl
+returns-in-Nil c = runs_at c.requires c.action.ensures c.in-Nil.is refl
 
 pub returns-in-Par : goal.returns-in-Par
 unfolding runs action_line
 returns-in-Par c =
-    let p = c.requires.0 in
-    let d = c.action_at.ensures in
-    let e = c.in-Par.is in
-    λ st w k. runs_at p w d e (room_of w k _ _ c.has_room.ensures)
+    let st = state_view c.args.state.now in
+    let e : c.has_room-in-Par.result ≡ room (length st.threads) st.lines c.in-Par.next c.in-Par.more = c.has_room-in-Par.ensures ∙ ap (λ (n : ℕ). room n st.lines c.in-Par.next c.in-Par.more) (sym (threads_count c.requires.fits)) in
+    elim c.in-Par.is [
+      | inl i ↦ runs_at c.requires c.action.ensures i e
+      | inr i ↦ runs_at c.requires c.action.ensures i.2 e
+    ]
 
 pub returns-in-Rep : goal.returns-in-Rep
 unfolding runs action_line
 returns-in-Rep c =
-    let p = c.requires.0 in
-    let d = c.action_at.ensures in
-    let e = c.in-Rep.is in
-    λ st w k. runs_at p w d e (room_of w k _ _ c.has_room-in-Rep.ensures)
+    let st = state_view c.args.state.now in
+    runs_at c.requires c.action.ensures c.in-Rep.is (c.has_room.ensures ∙ ap (λ (n : ℕ). room n st.lines c.args.th.now.line c.in-Rep.next) (sym (threads_count c.requires.fits)))
 
 pub returns-in-Out : goal.returns-in-Out
-unfolding runs action_line
-returns-in-Out c =
-    let p = c.requires.0 in
-    λ st w k. runs_at p w c.action_at.ensures c.in-Out.is (more_of w)
+unfolding runs action_line state_view
+returns-in-Out c = runs_at c.requires c.action.ensures c.in-Out.is (ap (λ (k : ℕ). ltb k 256) (sym (rows_long c.args.state.now.tuples.count c.args.state.now.tuples.bytes)))
 
 pub returns-in-In : goal.returns-in-In
 unfolding runs action_line
-returns-in-In c =
-    let p = c.requires.0 in
-    let d = c.action_at.ensures in
-    let e = c.in-In.is in
-    λ st w k. runs_at p w d e (tuples_of w _ c.some_agrees.ensures)
+returns-in-In c = elim c.in-In.is [
+  | inl e ↦ runs_at c.requires c.action.ensures e.1 c.some_agrees.ensures
+  | inr e ↦ runs_at c.requires c.action.ensures e.1 c.some_agrees.ensures
+]
 
-pub returns-in-Read : goal.returns-in-Read
-unfolding runs action_line
-returns-in-Read c =
-    let p = c.requires.0 in
-    let d = c.action_at.ensures in
-    let e = c.in-Read.is in
-    λ st w k. runs_at p w d e (tuples_of w _ c.some_agrees-in-Read.ensures)
-
-pub returns-in-Eval : goal.returns-in-Eval
-unfolding runs action_line
-returns-in-Eval c =
-    let p = c.requires.0 in
-    let d = c.action_at.ensures in
-    let e = c.in-Eval.is in
-    λ st w k. runs_at p w d e (room_of w k _ _ c.has_room-in-Eval.ensures)
+pub some_guest-requires : goal.some_guest-requires
+unfolding state_view
+some_guest-requires c =
+    let w : InForm c.args.state.now.lines.count c.args.state.now.lines.bytes c.args.th.now.line = record { in_order = c.requires.fits.invariant.lines_ordered; present = c.requires.present } in
+    (c.requires.fits, c.requires.placed, (next w c.action.ensures c.in-Accept.is).1)
 
 pub returns-in-Accept : goal.returns-in-Accept
 unfolding runs action_line
-returns-in-Accept c =
-    let p = c.requires.0 in
-    let d = c.action_at.ensures in
-    let e = c.in-Accept.is in
-    λ st w k. runs_at p w d e (c.some_guest.ensures st w.guests k)
+returns-in-Accept c = runs_at c.requires c.action.ensures c.in-Accept.is c.some_guest.ensures

@@ -1,52 +1,45 @@
-use mathlib.Core.Path.{sym, ap, ◌∙◌}
-use mathlib.Core.List.{List}
-use Prim.Native.Nat.{ℕ, ◌<◌}
-use native.Mathlib.Omega.{arith}
-use Rattle.sets.specs.Lists.{among}
+use mathlib.Core.Path.{ap, subst, ◌∙◌}
+use Prim.Native.Nat.{ℕ}
+use Rattle.std.specs.Prelude.{Option}
+use Rattle.klaim.specs.Process.{tree}
+use Rattle.klaim.specs.Reader.{refused}
+use Rattle.klaim.specs.Refusals.{number_of}
+use Rattle.klaim.specs.declared.Refusal.{Refusal}
+use Rattle.klaim.specs.Report.{door}
 use Rattle.state.specs.View.{state_view}
-use Rattle.plan.proofs.Laws.{guest_door}
-use Rattle.plan.proofs.Fitted.{lent_admits, shown_few, lent_size, lent_arrivals, lent_guests}
-use Rattle.ready.specs.View.{door_view}
+use Rattle.state.proofs.Few.{arrivals_few}
+use Rattle.plan.specs.Move.{Placed}
+use Rattle.plan.proofs.Laws.{placed_none}
 use Rattle.ready.proofs.Laws.{door_unknown, door_far, door_other, door_gives}
-use borrow.Author.Tests.{lt-ltb, le-ltb}
 use Rattle.ready.proofs.door.Goals as goal
 
-pub arrival_at-i-requires : goal.arrival_at-i-requires
-arrival_at-i-requires c = let w = lent_admits c.requires in (w.arrivals_few, w.arrivals_long)
+pub arrival_at-requires : goal.arrival_at-requires
+arrival_at-requires c = arrivals_few c.requires
 
-pub returns-then-narrivals-i : goal.returns-then-narrivals-i
-unfolding door_view
-returns-then-narrivals-i c =
-    let ar = c.args in
-    λ x f z e. door_unknown (state_view x) ar.r ar.l ar.d (c.arrival_at-i.ensures.1 ∙ ap (λ (xs : List ℕ). among xs ar.r) (sym (lent_arrivals f z e))) (le-ltb c.arrival_at-i.result ar.narrivals c.if-narrivals-i.true)
+pub returns-in_default : goal.returns-in_default
+unfolding state_view
+returns-in_default c =
+    let rs = c.args.state.now.arrivals in
+    ap (λ (e : Refusal). refused (number_of e.why) e.row) c.from.ensures ∙ door_unknown (state_view c.args.state.now) c.args.r c.args.l c.args.d (placed_none rs.roots rs.count c.args.r c.arrival_at.ensures c.in_default.not-Some)
 
-pub returns-then-wide-l : goal.returns-then-wide-l
-unfolding door_view
-returns-then-wide-l c =
-    let ar = c.args in
-    λ x f z e. door_far (state_view x) ar.r ar.l ar.d (c.arrival_at-i.ensures.1 ∙ ap (λ (xs : List ℕ). among xs ar.r) (sym (lent_arrivals f z e))) (lt-ltb c.arrival_at-i.result ar.narrivals c.if-narrivals-i.false) (omega (arith, lent_size f z e, c.wide.ensures, c.if-wide-l.true))
+pub returns-then-state-l : goal.returns-then-state-l
+unfolding state_view
+returns-then-state-l c =
+    let rs = c.args.state.now.arrivals in
+    let p = subst (λ (o : Option ℕ). Placed rs.roots rs.count c.args.r o) c.in-Some.is c.arrival_at.ensures in
+    ap (λ (e : Refusal). refused (number_of e.why) e.row) c.from-then-state-l.ensures ∙ door_far (state_view c.args.state.now) c.args.r c.args.l c.args.d p.2 c.if-state-l.true
 
 pub returns-then-d-ge-SANDBOXES : goal.returns-then-d-ge-SANDBOXES
-unfolding door_view
+unfolding state_view
 returns-then-d-ge-SANDBOXES c =
-    let ar = c.args in
-    λ x f z e. door_other (state_view x) ar.r ar.l ar.d (c.arrival_at-i.ensures.1 ∙ ap (λ (xs : List ℕ). among xs ar.r) (sym (lent_arrivals f z e))) (lt-ltb c.arrival_at-i.result ar.narrivals c.if-narrivals-i.false) (omega (arith, lent_size f z e, c.wide.ensures, c.if-wide-l.false)) (omega arith)
-
-pub admitted-requires : goal.admitted-requires
-admitted-requires c = (lent_admits c.requires, c.if-narrivals-i.false, omega (arith, c.wide.ensures, shown_few c.requires), omega arith)
-
-pub returns-then-admitted : goal.returns-then-admitted
-unfolding door_view
-returns-then-admitted c =
-    let ar = c.args in
-    let i = c.arrival_at-i in
-    let h : ar.l < ar.size = omega (arith, c.wide.ensures, c.if-wide-l.false) in
-    λ x f z e. let w = lent_guests f z e ar.l h in door_gives (state_view x) ar.r ar.l ar.d (c.arrival_at-i.ensures.1 ∙ ap (λ (xs : List ℕ). among xs ar.r) (sym (lent_arrivals f z e))) (lt-ltb c.arrival_at-i.result ar.narrivals c.if-narrivals-i.false) (omega (arith, h, lent_size f z e)) (omega arith) (guest_door w ar.d i.result ar.r (i.ensures.2 c.if-narrivals-i.false) (c.admitted.ensures (state_view x) w) c.if-admitted.true)
+    let rs = c.args.state.now.arrivals in
+    let p = subst (λ (o : Option ℕ). Placed rs.roots rs.count c.args.r o) c.in-Some.is c.arrival_at.ensures in
+    ap (λ (e : Refusal). refused (number_of e.why) e.row) c.from-then-d-ge-SANDBOXES.ensures ∙ door_other (state_view c.args.state.now) c.args.r c.args.l c.args.d p.2 c.if-state-l.false c.if-d-ge-SANDBOXES.true
 
 pub returns : goal.returns
-unfolding door_view
+unfolding state_view
 returns c =
-    let ar = c.args in
-    let i = c.arrival_at-i in
-    let h : ar.l < ar.size = omega (arith, c.wide.ensures, c.if-wide-l.false) in
-    λ x f z e. let w = lent_guests f z e ar.l h in door_gives (state_view x) ar.r ar.l ar.d (c.arrival_at-i.ensures.1 ∙ ap (λ (xs : List ℕ). among xs ar.r) (sym (lent_arrivals f z e))) (lt-ltb c.arrival_at-i.result ar.narrivals c.if-narrivals-i.false) (omega (arith, h, lent_size f z e)) (omega arith) (guest_door w ar.d i.result ar.r (i.ensures.2 c.if-narrivals-i.false) (c.admitted.ensures (state_view x) w) c.if-admitted.false)
+    let rs = c.args.state.now.arrivals in
+    let st = state_view c.args.state.now in
+    let p = subst (λ (o : Option ℕ). Placed rs.roots rs.count c.args.r o) c.in-Some.is c.arrival_at.ensures in
+    door_gives st c.args.r c.args.l c.args.d p.2 c.if-state-l.false c.if-d-ge-SANDBOXES.false (c.admitted.ensures ∙ ap (λ (x : ℕ). door st.net st.estimate c.args.d c.args.l (tree st.lines x)) p.1)

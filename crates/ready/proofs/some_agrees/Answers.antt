@@ -1,24 +1,29 @@
 use mathlib.Core.Path.{◌≡◌, sym, ◌∙◌}
 use Prim.Native.Nat.{suc, ◌+◌}
 use native.Mathlib.Omega.{arith}
-use Rattle.ready.proofs.Laws.{row_here, row_nowhere, none_more}
+use Rattle.sets.proofs.Shared.{any_yes, any_no, any_end}
+use Rattle.tables.specs.View.{row_at, rows_view}
+use Rattle.state.specs.View.{state_view}
 use Rattle.ready.proofs.some_agrees.Goals as goal
 
-pub loop-m-init : goal.loop-m-init
-loop-m-init c = (omega arith, λ j h. absurd (omega arith))
-
 pub returns-then-agrees : goal.returns-then-agrees
+unfolding state_view rows_view
 returns-then-agrees c =
-    let ar = c.args in
-    row_here _ ar.n ar.tuples.now c.loop-m.m (omega arith) (sym c.agrees.ensures ∙ c.if-agrees.true)
+    let at = c.loop-m in
+    let ts = c.args.state.now.tuples in
+    sym (at.invariant ∙ any_yes _ ts.count (row_at ts.bytes) at.m (omega arith) (sym c.agrees.ensures.value ∙ c.if-agrees.true))
 
 pub loop-m-preserved : goal.loop-m-preserved
+unfolding state_view rows_view
 loop-m-preserved c =
     let at = c.loop-m in
-    let e : suc at.m ≡ at.m + 1 = omega arith in
-    (omega arith, none_more at.invariant.1 (sym c.agrees.ensures ∙ c.if-agrees.false) (at.m + 1) e)
+    let ts = c.args.state.now.tuples in
+    let s : suc at.m ≡ at.m + 1 = omega arith in
+    at.invariant ∙ any_no _ ts.count (row_at ts.bytes) at.m (at.m + 1) (omega arith) s (sym c.agrees.ensures.value ∙ c.if-agrees.false)
 
 pub returns : goal.returns
+unfolding state_view rows_view
 returns c =
-    let ar = c.args in
-    row_nowhere _ ar.n ar.tuples.now (λ j h. c.loop-m.invariant.1 j (omega arith))
+    let at = c.loop-m in
+    let ts = c.args.state.now.tuples in
+    sym (at.invariant ∙ any_end _ ts.count (row_at ts.bytes) at.m (omega (arith, at.auto.m-end)))

@@ -6,6 +6,6 @@ pub returns-then-is_nil : goal.returns-then-is_nil
 unfolding standing
 returns-then-is_nil c = (omega arith, rw (← c.is_nil.ensures, c.if-is_nil.true))
 
-pub returns : goal.returns
+pub returns-else-is_nil : goal.returns-else-is_nil
 unfolding standing
-returns c = (omega arith, rw (← c.is_nil.ensures, c.if-is_nil.false))
+returns-else-is_nil c = (omega arith, rw (← c.is_nil.ensures, c.if-is_nil.false))

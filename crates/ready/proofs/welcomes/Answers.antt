@@ -1,18 +1,26 @@
-use mathlib.Core.Path.{sym, ◌∙◌}
-use Rattle.plan.proofs.Laws.{fits_sound, not_sound}
+use mathlib.Core.Path.{sym, ap, ◌∙◌}
+use Prim.Native.Nat.{ℕ}
+use native.Mathlib.Omega.{arith}
 use lib.ListN.{get_or}
-use Rattle.ready.proofs.Laws.{room_for}
+use Rattle.state.specs.View.{state_view}
+use Rattle.state.proofs.Few.{arrivals_few, threads_count}
+use Rattle.ready.specs.Runs.{room, welcome}
+use Rattle.ready.proofs.Laws.{door_room, no_room}
 use Rattle.ready.proofs.welcomes.Goals as goal
 
-pub admitted-requires : goal.admitted-requires
-admitted-requires c = (c.requires.0, c.requires.4, c.requires.1, c.requires.2)
+pub bounds-state-i : goal.bounds-state-i
+bounds-state-i c = omega (arith, c.requires.1, arrivals_few c.requires.0)
 
 pub returns-then-has_room : goal.returns-then-has_room
+unfolding welcome
 returns-then-has_room c =
-    let q = get_or c.args.arrivals.now c.args.i 0 in
-    λ st w. c.admitted.ensures st w ∙ fits_sound _ _ (sym (room_for w c.args.count c.args.a q c.has_room.ensures) ∙ c.if-has_room.true)
+    let st = state_view c.args.state.now in
+    let r = get_or c.args.state.now.arrivals.roots c.args.i 0 in
+    door_room _ _ (ap (λ (n : ℕ). room n st.lines c.args.a r) (threads_count c.requires.0) ∙ sym c.has_room.ensures ∙ c.if-has_room.true) c.admitted.ensures
 
 pub returns : goal.returns
+unfolding welcome
 returns c =
-    let q = get_or c.args.arrivals.now c.args.i 0 in
-    λ st w. not_sound _ _ (sym (room_for w c.args.count c.args.a q c.has_room.ensures) ∙ c.if-has_room.false)
+    let st = state_view c.args.state.now in
+    let r = get_or c.args.state.now.arrivals.roots c.args.i 0 in
+    no_room _ _ (ap (λ (n : ℕ). room n st.lines c.args.a r) (threads_count c.requires.0) ∙ sym c.has_room.ensures ∙ c.if-has_room.false)
