@@ -1,24 +1,21 @@
 -- Laws of a thread's bindings and of the list of threads.
 -- Assumes nothing.
 use mathlib.Core.Path.{◌≡◌, refl, sym, ap, ◌∙◌}
-use mathlib.Core.Bool.{Bool, true, false, cond}
+use mathlib.Core.Bool.{Bool, true, false}
 use mathlib.Core.List.{List, [], ◌∷◌, ◌++◌, map, map-append}
 use mathlib.Core.Option
 use mathlib.Core.Option.{Option, none, some}
 use Rattle.std.specs.Prelude.{Option as Told, None, Some}
 use Rattle.sets.specs.Options.{option_of}
-use Prim.Native.Nat.{ℕ, zero, suc, ◌+◌, ◌*◌, ◌^◌, ◌<◌, ◌≤◌}
+use Prim.Native.Nat.{ℕ, zero, suc, ◌+◌, ◌<◌, ◌≤◌}
 use native.Mathlib.Omega.{arith}
-use native.Mathlib.Decide.{ℕ_discrete}
 use native.Mathlib.Numerals.{add-one}
-use borrow.Author.Tests.{ne_eqb}
-use lib.ListN.{length, get_or, get_elem?, set, take, length-set, length-map}
-use lib.Seq.{get_or-set_same, get_or-set_other, ext_get_or, take-suc-set, take-set-lt, length-take-le, get_or-take}
-use Rattle.sets.specs.Lists.{either, splice, table, table_from, ◌&◌}
-use Rattle.sets.specs.Bits.{has, mem, join}
-use Rattle.sets.proofs.Lists.{eq-eqb, or_r, or_false}
-use Rattle.sets.proofs.Tables.{get_or_table, length_table, same_table, list_table, map_table, Filled}
-use Rattle.sets.proofs.Bits.{has_or, has_none}
+use lib.ListN.{length, get_or, get_elem?, set, take, length-map}
+use lib.Seq.{take-suc-set, take-set-lt, length-take-le, get_or-take}
+use Rattle.sets.specs.Lists.{splice, table, ◌&◌}
+use Rattle.sets.specs.Bits.{has}
+use Rattle.sets.proofs.Tables.{list_table, map_table, Filled}
+use Rattle.klaim.specs.Process.{Line, line_at}
 use Rattle.klaim.specs.declared.Site.{Site}
 use Rattle.klaim.specs.declared.Var.{Var}
 use Rattle.klaim.specs.declared.Loc.{Loc}
@@ -26,7 +23,6 @@ use Rattle.klaim.specs.declared.Loc.TheVariants.{At, Here, Use}
 use Rattle.klaim.specs.Net.{Net, home}
 use Rattle.klaim.specs.State as Spec
 use Rattle.klaim.specs.Engine.{value, under, permits}
-use Rattle.sets.proofs.Shared.{mem_single}
 use Rattle.threads.specs.declared.Thread.{Thread}
 use Rattle.threads.specs.View.{no_thread, bindings_view, thread_view, threads_view}
 use Rattle.threads.proofs.Splice.{get_some, get_none, map_some, splice_set, map_splice, moved_all}
@@ -107,3 +103,13 @@ module _ (N : Net) (th : Spec.Thread) (t right : ℕ) where
   pub permit_no : has (get_or th.policy t 0) right ≡ false → false ≡ permits N th t right
   unfolding permits ◌&◌
   permit_no q = rw q
+
+-- a thread on a line is taken out or kept
+module _ (ls : List Line) (th : Spec.Thread) where
+  pub settle_nil : {b : Bool} → b ≡ Spec.is_nil (line_at ls th.line) → b ≡ true → Spec.settle ls th ≡ []
+  unfolding Spec.settle
+  settle_nil e t = rw (sym e ∙ t)
+
+  pub settle_one : {b : Bool} → b ≡ Spec.is_nil (line_at ls th.line) → b ≡ false → Spec.settle ls th ≡ th ∷ []
+  unfolding Spec.settle
+  settle_one e t = rw (sym e ∙ t)

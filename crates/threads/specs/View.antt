@@ -1,6 +1,6 @@
 -- What a thread, and a list of threads, stand for.
 -- Assumes nothing.
-use Rattle.std.specs.Prelude.{Option, None, List, [], map, ℕ, take}
+use Rattle.std.specs.Prelude.{Option, List, [], map, ℕ, take}
 use Rattle.sets.specs.Options.{option_of}
 use Rattle.klaim.specs.State as Spec
 use Rattle.klaim.specs.declared.Site.{Site}

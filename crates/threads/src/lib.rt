@@ -1,19 +1,19 @@
 //! Threads of an engine's state, by value: their bindings, their policies, and the list of them.
 #![tactic(auto)]
 
-ghost use Rattle.std.specs.Prelude.{◌≡◌, ◌++◌, ◌∷◌, [], ◌+◌, ◌-◌, ◌<◌, ◌≤◌, get_or, set};
+ghost use Rattle.std.specs.Prelude.{◌≡◌, ◌++◌, ◌∷◌, [], ◌+◌, ◌-◌, ◌<◌, ◌≤◌, length, get_or, set};
 ghost use Rattle.std.proofs.Math.Option;
 ghost use Rattle.std.proofs.Math.Option.{none, some};
 ghost use Rattle.sets.specs.Lists.{splice};
 ghost use Rattle.sets.specs.Bits.{has};
-ghost use Rattle.klaim.specs.State.{home_policy, box_policy};
+ghost use Rattle.klaim.specs.State.{home_policy, box_policy, settle as settle_in};
 ghost use Rattle.klaim.specs.Engine.{value as value_of, to as to_line, under as under_of, permits as permits_of};
-ghost use Rattle.tables.specs.View.{LowLoc, net_view};
+ghost use Rattle.tables.specs.View.{LowLoc, lines_of, net_view};
 ghost use Rattle.threads.specs.View.{bindings_view, thread_view, threads_of, rebound};
 
 use klaim::{Loc, Site, Var};
 use std::array;
-use tables::Net;
+use tables::{Lines, Net};
 
 // "A site or none for each of 32 variables".
 pub type Bindings = [Option<Site>; 32];
@@ -133,6 +133,32 @@ impl Threads {
             self.items[i] = self.items[i + 1];
         }
         self.count = last;
+    }
+}
+
+impl Threads {
+    // Thread k goes on as th, and is taken out where it stands on `nil`.
+    pub fn settle(&mut self, lines: &Lines, k: usize, th: Thread)
+        requires { (k < self.old.count) × (self.old.count ≤ 64) }
+        ensures list { threads_of self.new ≡ splice k (settle_in (lines_of lines.now) (thread_view th)) (threads_of self.old) }
+        ensures count { self.new.count ≡ self.old.count - 1 + length (settle_in (lines_of lines.now) (thread_view th)) }
+    {
+        if lines.is_nil(th.line) {
+            self.remove(k);
+        } else {
+            self.replace(k, th);
+        }
+    }
+
+    // The list with a thread more, unless that stands on `nil`.
+    pub fn enter(&mut self, lines: &Lines, th: Thread)
+        requires { self.old.count + length (settle_in (lines_of lines.now) (thread_view th)) ≤ 64 }
+        ensures list { threads_of self.new ≡ threads_of self.old ++ settle_in (lines_of lines.now) (thread_view th) }
+        ensures count { self.new.count ≡ self.old.count + length (settle_in (lines_of lines.now) (thread_view th)) }
+    {
+        if !lines.is_nil(th.line) {
+            self.push(th);
+        }
     }
 }
 
