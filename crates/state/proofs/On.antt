@@ -10,20 +10,8 @@ use Rattle.tables.specs.declared.Tuples.{Tuples}
 use Rattle.threads.specs.declared.Threads.{Threads}
 use Rattle.state.specs.declared.Event.{Event}
 use Rattle.state.specs.declared.State.{State}
-use Rattle.state.specs.View.{state_view}
+use Rattle.state.specs.View.{state_view, gone_on}
 use Rattle.state.specs.Fits.{sound_at, Fits}
-
--- all that no step changes, other tuples and threads, and another answer
-abbrev pub gone_on : State → Tuples → Threads → Prelude.Result Event Refusal → State
-gone_on st tuples threads told = record {
-  net = st.net;
-  estimate = st.estimate;
-  lines = st.lines;
-  arrivals = st.arrivals;
-  tuples = tuples;
-  threads = threads;
-  told = told;
-}
 
 -- it keeps what is its own of the invariant
 pub fits_on : (st : State) (tuples : Tuples) (threads : Threads) (told : Prelude.Result Event Refusal) → Fits st → length tuples.bytes ≡ 1536 → length threads.items ≡ 64 → threads.count ≤ 64 → Invariant (state_view (gone_on st tuples threads told)) → Fits (gone_on st tuples threads told)

@@ -7,7 +7,9 @@ use Rattle.klaim.specs.Refusals.{answer_of}
 use Rattle.klaim.specs.State as Spec
 use Rattle.klaim.specs.Engine as Engine
 use Rattle.klaim.specs.declared.Refusal.{Refusal}
+use Rattle.tables.specs.declared.Tuples.{Tuples}
 use Rattle.tables.specs.View.{net_view, estimate_view, lines_of, tuples_of}
+use Rattle.threads.specs.declared.Threads.{Threads}
 use Rattle.threads.specs.View.{threads_of}
 use Rattle.state.specs.declared.Event.{Event}
 use Rattle.state.specs.declared.Event.TheVariants.{Brought, Withdrawn, Silent, Performed}
@@ -38,3 +40,15 @@ answer_view told = answer_of event_view told
 -- the answer, and the state behind the call
 unfoldable pub result_view : State → Engine.Result
 result_view st = record { answer = answer_view st.told; state = state_view st }
+
+-- all that no step changes, other tuples and threads, and another answer
+abbrev pub gone_on : State → Tuples → Threads → Prelude.Result Event Refusal → State
+gone_on st tuples threads told = record {
+  net = st.net;
+  estimate = st.estimate;
+  lines = st.lines;
+  arrivals = st.arrivals;
+  tuples = tuples;
+  threads = threads;
+  told = told;
+}

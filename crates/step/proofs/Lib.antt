@@ -1,5 +1,2 @@
-pub mod Counts
-pub mod Applied
-pub mod Shift
-pub mod Steps
 pub mod Table
+pub mod Laws

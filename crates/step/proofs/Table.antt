@@ -9,7 +9,7 @@ use Rattle.tables.specs.View.{row_at}
 use Rattle.tables.proofs.Bytes.{row_long}
 use Rattle.places.specs.Places.{Put}
 use Rattle.tuples.specs.Rows.{Padded, Moved}
-use Rattle.state.specs.Lent.{TableAfter}
+use Rattle.state.specs.Table.{TableAfter}
 
 -- a row put behind n others
 pub table_more : {old row new : List ℕ} (n m : ℕ) → Put old row (6 * n) 6 new → 6 * n + 6 ≤ length old → Padded row → TableAfter old n m (n + 1) new

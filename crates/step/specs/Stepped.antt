@@ -1,45 +1,67 @@
--- What a step promises, and what it finds of the lists before it touches them.
+-- What a step promises, and what it finds of a move before it is made.
 -- Assumes nothing.
-use Rattle.std.specs.Prelude.{◌≡◌, Bool, not, cond, List, ℕ, ◌+◌, ◌-◌, ◌<◌, eqb, leb}
+use Rattle.std.specs.Prelude.{◌≡◌, Bool, true, not, ℕ, ◌<◌, ◌≤◌, leb, length, get_or}
+use Rattle.std.specs.Prelude as Prelude
 use Rattle.sets.specs.Lists.{◌&◌, either}
-use Rattle.klaim.specs.Process.{Line, line_at}
-use Rattle.klaim.specs.Reader.{refused}
-use Rattle.klaim.specs.State.{is_nil}
+use Rattle.klaim.specs.Limits.{thread_limit, tuple_limit}
+use Rattle.klaim.specs.Net.{Net}
+use Rattle.klaim.specs.Reader.{gives}
+use Rattle.klaim.specs.Refusals.{number_of}
+use Rattle.klaim.specs.declared.Reason.{Reason}
 use Rattle.klaim.specs.State as Spec
 use Rattle.klaim.specs.Engine as Engine
+use Rattle.threads.specs.View.{no_thread}
 use Rattle.state.specs.declared.State.{State}
-use Rattle.state.specs.declared.Run.{Run}
-use Rattle.state.specs.View.{state_view, answer_view, result_view}
+use Rattle.state.specs.View.{state_view, answer_view, result_view, gone_on}
 use Rattle.state.specs.Fits.{Fits}
-use Rattle.threads.specs.declared.Thread.{Thread}
-use Rattle.threads.specs.View.{thread_view}
-use Rattle.tuples.specs.Rows.{Padded}
+use Rattle.plan.specs.declared.Use.{Use}
+use Rattle.plan.specs.declared.Use.TheVariants.{Nothing, Right}
 use Rattle.plan.specs.declared.Move.{Move}
-use Rattle.plan.specs.Move.{plan_view}
-use Rattle.step.specs.declared.Sizes.{Sizes}
-use Rattle.step.specs.declared.Decision.{Decision}
+use Rattle.plan.specs.Move.{IsChange, state_after}
 
--- the sizes are those behind a move, from n threads and t tuples
-pub record Measured (ls : List Line) (n t : ℕ) (v : Move) (s : Sizes) : Type 0 where
-  pub nil_is : s.nil ≡ is_nil (line_at ls v.thread.line)
-  pub more_is : s.more ≡ (v.adds & not (is_nil (line_at ls v.added.line)))
-  pub left_is : s.left ≡ cond s.nil (n - 1) n
-  pub threads_is : s.threads ≡ cond s.more (s.left + 1) s.left
-  pub tuples_is : s.tuples ≡ cond (eqb v.change 1) (t + 1) (cond (eqb v.change 2) (t - 1) t)
+-- what a step of a thread at site s answers, by what it uses: "'silent' .. its site, target and right"
+abbrev pub event_of : ℕ → Use → Engine.Event
+event_of s Nothing = Engine.silent
+event_of s (Right target right) = Engine.performed s target right
 
--- what a step of thread th comes to by the tests from 22 on, from n threads and t tuples: its plan, the sizes of the lists behind it,
--- and the number that refuses it, or 0
-pub record Decided (guarded : Bool) (st : Spec.State) (n t : ℕ) (th : Thread) (m r : ℕ) (d : Decision) : Type 0 where
-  pub plan_is : (k : ℕ) → plan_view st k m d.plan ≡ Engine.plan st k (thread_view th) m r (line_at st.lines th.line)
-  pub taken : d.plan.change ≡ 2 → m < t
-  pub padded : Padded d.plan.row
-  pub measured : Measured st.lines n t d.plan d.sizes
-  pub number_is : d.number ≡ cond (eqb d.plan.stop 0) (cond (not (either d.plan.silent (either (not guarded) (Engine.permits st.net (thread_view th) d.plan.target d.plan.right)))) 26 (cond (leb d.sizes.threads 64 & leb d.sizes.tuples 256) 0 27)) d.plan.stop
+-- 26: "Guarded steps need the right ..; bare ones need neither"
+abbrev pub may : Bool → Net → Spec.Thread → Use → Bool
+may guarded N th Nothing = true
+may guarded N th (Right target right) = either (not guarded) (Engine.permits N th target right)
 
--- the run has a refusal for its answer, and is else as it was
-pub record Refusing (run : Run) (number : ℕ) (next : Run) : Type 0 where
-  pub kept : next ≡ record { threads = run.threads; nthreads = run.nthreads; ntuples = run.ntuples; told = next.told }
-  pub answer : answer_view next.told ≡ refused number 0
+-- 27: "lists after the step would exceed 64 or 256"
+abbrev pub room : Spec.State → Bool
+room st = leb (length st.threads) thread_limit & leb (length st.tuples) tuple_limit
+
+-- thread k of a state can make this move: the tuple that it takes is one of them, and the lists have room
+pub record Movable (st : State) (k m : ℕ) (v : Move) : Type 0 where
+  pub present : k < st.threads.count
+  pub change : IsChange m st.tuples.count v.change
+  pub threads_few : length (state_after (state_view st) k m v).threads ≤ thread_limit
+  pub tuples_few : length (state_after (state_view st) k m v).tuples ≤ tuple_limit
+
+-- the site of thread k
+abbrev pub site_at : State → ℕ → ℕ
+site_at st k = (get_or st.threads.items k no_thread).site.0
+
+-- a step that no test refuses makes this move
+pub record Allowed (guarded : Bool) (st : State) (k m r : ℕ) (v : Move) : Type 0 where
+  pub movable : Movable st k m v
+  pub result : Engine.step guarded (state_view st) k m r ≡ record { answer = gives (event_of (site_at st k) v.uses); state = state_after (state_view st) k m v }
+
+-- what a step comes to by all its tests
+abbrev pub Decided : Bool → State → ℕ → ℕ → ℕ → Prelude.Result Move Reason → Type 0
+Decided guarded st k m r (Prelude.Ok v) = Allowed guarded st k m r v
+Decided guarded st k m r (Prelude.Err why) = Engine.step guarded (state_view st) k m r ≡ Engine.refuse (number_of why) 0 (state_view st)
+
+-- the move is made, and nothing else
+pub record Performed (st : State) (k m : ℕ) (v : Move) (next : State) : Type 0 where
+  pub kept : next ≡ gone_on st next.tuples next.threads next.told
+  pub state : state_view next ≡ state_after (state_view st) k m v
+  pub answer : answer_view next.told ≡ gives (event_of (site_at st k) v.uses)
+  pub tuples_long : length next.tuples.bytes ≡ 1536
+  pub threads_long : length next.threads.items ≡ 64
+  pub threads_few : next.threads.count ≤ 64
 
 -- a step was made: the answer and the state are those of document 01, and the invariant is kept
 pub record Stepped (guarded : Bool) (st : State) (k m r : ℕ) (next : State) : Type 0 where

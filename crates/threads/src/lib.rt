@@ -108,6 +108,7 @@ impl Threads {
         requires { self.old.count < 64 }
         ensures list { threads_of self.new ≡ threads_of self.old ++ (thread_view th ∷ []) }
         ensures count { self.new.count ≡ self.old.count + 1 }
+        ensures long { length self.new.items ≡ 64 }
     {
         self.items[self.count] = th;
         self.count += 1;
@@ -118,6 +119,7 @@ impl Threads {
         requires { (k < self.old.count) × (self.old.count ≤ 64) }
         ensures list { threads_of self.new ≡ splice k (thread_view th ∷ []) (threads_of self.old) }
         ensures count { self.new.count ≡ self.old.count }
+        ensures long { length self.new.items ≡ 64 }
     {
         self.items[k] = th;
     }
@@ -127,6 +129,7 @@ impl Threads {
         requires { (k < self.old.count) × (self.old.count ≤ 64) }
         ensures list { threads_of self.new ≡ splice k [] (threads_of self.old) }
         ensures count { self.new.count ≡ self.old.count - 1 }
+        ensures long { length self.new.items ≡ 64 }
     {
         let last = self.count - 1;
         for i in k..last {
@@ -142,6 +145,7 @@ impl Threads {
         requires { (k < self.old.count) × (self.old.count ≤ 64) }
         ensures list { threads_of self.new ≡ splice k (settle_in (lines_of lines.now) (thread_view th)) (threads_of self.old) }
         ensures count { self.new.count ≡ self.old.count - 1 + length (settle_in (lines_of lines.now) (thread_view th)) }
+        ensures long { length self.new.items ≡ 64 }
     {
         if lines.is_nil(th.line) {
             self.remove(k);
@@ -155,6 +159,7 @@ impl Threads {
         requires { self.old.count + length (settle_in (lines_of lines.now) (thread_view th)) ≤ 64 }
         ensures list { threads_of self.new ≡ threads_of self.old ++ settle_in (lines_of lines.now) (thread_view th) }
         ensures count { self.new.count ≡ self.old.count + length (settle_in (lines_of lines.now) (thread_view th)) }
+        ensures long { length self.new.items ≡ 64 }
     {
         if !lines.is_nil(th.line) {
             self.push(th);

@@ -1,31 +1,42 @@
-use mathlib.Core.Path.{sym, subst}
-use mathlib.Core.List.{List}
+use mathlib.Core.Path.{sym, subst, ◌∙◌}
+use Prim.Native.Nat.{◌<◌}
 use native.Mathlib.Omega.{arith}
-use Rattle.klaim.specs.Process.{Line}
-use Rattle.step.specs.Stepped.{Measured}
-use Rattle.step.proofs.Steps.{number_is_lem}
+use Rattle.std.proofs.lemmas.Result.{err_from_is_err_and}
+use Rattle.plan.specs.declared.Change.{Change}
+use Rattle.plan.specs.Move.{IsChange}
+use Rattle.plan.proofs.Fitted.{plannable}
+use Rattle.state.specs.View.{state_view}
+use Rattle.state.proofs.Few.{sites_few}
+use Rattle.step.proofs.Laws.{step_none, step_stops, step_lacks, step_full, step_allowed}
 use Rattle.step.proofs.decide.Goals as goal
 
-pub plan-v-requires : goal.plan-v-requires
-plan-v-requires c = c.requires.0
+pub returns-then-state-k : goal.returns-then-state-k
+returns-then-state-k c = step_none c.args.guarded c.requires c.args.k c.args.m c.args.r c.if-state-k.true
 
-pub measure-s-requires : goal.measure-s-requires
-measure-s-requires c =
-    let t = c.requires.0 in
-    (c.requires.1, c.requires.2, t.tuples_few, λ e. omega (arith, c.plan-v.ensures.right_nonzero.1 e))
+pub plan-requires : goal.plan-requires
+plan-requires c = plannable c.requires c.args.k c.if-state-k.false
 
-pub allowed-may-requires : goal.allowed-may-requires
-allowed-may-requires c = (c.requires.0.thread_placed, c.plan-v.ensures.right_nonzero.0)
+pub returns-in_err-v : goal.returns-in_err-v
+returns-in_err-v c =
+    let p = err_from_is_err_and c.from_residual.result c.from_residual.ensures.1 in
+    rw (p.1, p.2) (step_stops c.args.guarded c.requires c.args.k c.args.m c.args.r c.if-state-k.false c.in_err-v.was c.plan.ensures.value)
+
+pub may-requires : goal.may-requires
+may-requires c = (omega (arith, (plannable c.requires c.args.k c.if-state-k.false).placed, sites_few c.requires), c.in_ok-v.ensures.possible.uses)
+
+pub has_room-requires : goal.has_room-requires
+has_room-requires c =
+    let p = c.in_ok-v.ensures.possible.change in
+    (c.requires, omega (arith, c.if-state-k.false), λ e. let h : c.args.m < c.args.state.now.tuples.count = subst (λ (x : Change). IsChange c.args.m c.args.state.now.tuples.count x) e p in omega (arith, h))
+
+pub returns-then-not-may : goal.returns-then-not-may
+unfolding state_view
+returns-then-not-may c = step_lacks c.args.guarded c.requires c.args.k c.args.m c.args.r c.if-state-k.false c.in_ok-v.v (c.in_ok-v.ensures.value c.args.k) (sym c.may.ensures ∙ c.if-not-may.true)
+
+pub returns-then-not-has_room : goal.returns-then-not-has_room
+unfolding state_view
+returns-then-not-has_room c = step_full c.args.guarded c.requires c.args.k c.args.m c.args.r c.if-state-k.false c.in_ok-v.v (c.in_ok-v.ensures.value c.args.k) (sym c.may.ensures ∙ c.if-not-may.false) (sym (c.has_room.ensures c.args.k c.args.m c.if-state-k.false c.in_ok-v.ensures.possible.change) ∙ c.if-not-has_room.true)
 
 pub returns : goal.returns
-returns c =
-    let p = c.plan-v in
-    let z = c.measure-s in
-    let v = p.result in
-    λ st w e. record {
-      plan_is = λ k. p.ensures.result_value st k w;
-      taken = p.ensures.right_nonzero.1;
-      padded = p.ensures.right_nonzero.2;
-      measured = subst (λ (ls : List Line). Measured ls c.args.nthreads c.args.ntuples v z.result) (sym w.guests.lines_is) z.ensures;
-      number_is = number_is_lem c.args.guarded v.silent v.stop z.result.threads z.result.tuples (c.allowed-may.ensures st.net e) c.lacks-short.ensures c.room-fits.ensures c.refusal-number.ensures;
-    }
+unfolding state_view
+returns c = step_allowed c.args.guarded c.requires c.args.k c.args.m c.args.r c.if-state-k.false c.in_ok-v.v (c.in_ok-v.ensures.value c.args.k) (sym c.may.ensures ∙ c.if-not-may.false) (sym (c.has_room.ensures c.args.k c.args.m c.if-state-k.false c.in_ok-v.ensures.possible.change) ∙ c.if-not-has_room.false) c.in_ok-v.ensures.possible.change
