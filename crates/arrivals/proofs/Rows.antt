@@ -7,8 +7,9 @@ use Prim.Native.Nat.{ℕ, ◌+◌, ◌<◌}
 use native.Mathlib.Omega.{arith}
 use native.Mathlib.Decide.{ℕ_discrete}
 use lib.Dec.{eqb, leb}
-use lib.ListN.{length, length-append, length-map}
-use borrow.Author.Tests.{ne_eqb}
+use lib.ListN.{length, length-map}
+use Rattle.std.specs.Prelude.{Ok, Err}
+use Rattle.klaim.specs.declared.Reason.{Reason}
 use Rattle.sets.specs.Lists.{All, done, more, ◌&◌, either, all}
 use Rattle.sets.proofs.Lists.{eqb_eq, nleb_lt, All-append, or_false, and_yes}
 use Rattle.sets.proofs.Tables.{length_table}
@@ -21,11 +22,11 @@ use Rattle.forms.specs.declared.RowData.{RowData}
 use Rattle.forms.specs.Forms.{row_data, row_view, row_good, tuple_group}
 use Rattle.judge.proofs.Limits.{group_is}
 use Rattle.scan.specs.declared.Tally.{Tally}
-use Rattle.scan.specs.Numbers.{early_of, late_of, number_of, judged_by}
+use Rattle.scan.specs.Reasons.{Judging, early_of, late_of, judging_of, judged_by}
 use Rattle.scan.specs.Tallies.{counted_of}
-use Rattle.scan.specs.Tallies as Tallies
-use Rattle.scan.proofs.Numbers.{formed, not_formed, early_passed}
+use Rattle.scan.proofs.Reasons.{formed, not_formed, early_passed}
 use Rattle.scan.proofs.Tallies.{and_under, none_full, turn_own, own_row}
+use Rattle.arrivals.specs.Room.{Room}
 use Rattle.arrivals.specs.Rows.{ArrivalTally, Passed, full_of}
 
 -- as many lines stand in the table as Q rows stand above
@@ -67,25 +68,26 @@ module _ (n d : ℕ) (above : List Row) (lines : List ℕ) (row : RowData) (t : 
   unfolding repeated ◌&◌
   not_repeated h e = rw (group_is row G h, e)
 
-  judged_is : judge (an_arrival n d) above (row_view row) ≡ judged_by (number_of (early_of row (full_of d row.group t) (eqb row.group group_q)) (repeated above (row_data row)) (late_of t.size (row_data row))) (row_data row)
+  -- "Each row top down: 1, 2, 3, 4, 7."
+  judged_is : judge (an_arrival n d) above (row_view row) ≡ judged_by (judging_of (early_of row (full_of d row.group t) (eqb row.group group_q)) (repeated above (row_data row)) (late_of t.size (row_data row))) (row_data row)
   unfolding site_count
   judged_is = go (ℕ_discrete row.group 0)
     where
-      go : Dec (row.group ≡ 0) → judge (an_arrival n d) above (row_view row) ≡ judged_by (number_of (early_of row (full_of d row.group t) (eqb row.group group_q)) (repeated above (row_data row)) (late_of t.size (row_data row))) (row_data row)
+      go : Dec (row.group ≡ 0) → judge (an_arrival n d) above (row_view row) ≡ judged_by (judging_of (early_of row (full_of d row.group t) (eqb row.group group_q)) (repeated above (row_data row)) (late_of t.size (row_data row))) (row_data row)
       go (yes e) = not_formed (an_arrival n d) above row e _ _ _ _
       go (no e) = rw (← full_is n d row.group above Y.owned t (line_count above lines t.lines Y.lines_is), ← placed_is (omega arith), Y.size_is) (formed (an_arrival n d) above row G e)
 
-  pub number_early : (first : ℕ) → first ≡ early_of row (full_of d row.group t) (eqb row.group group_q) → (first ≡ 0 → ⊥) → judge (an_arrival n d) above (row_view row) ≡ judged_by first (row_data row)
-  unfolding number_of
-  number_early first e z = judged_is ∙ rw (← e, ne_eqb first 0 z)
+  pub judged_early : {why : Reason} → early_of row (full_of d row.group t) (eqb row.group group_q) ≡ Err why → judge (an_arrival n d) above (row_view row) ≡ judged_by (Err why) (row_data row)
+  judged_early e = judged_is ∙ ap (λ (j : Judging). judged_by (judging_of j (repeated above (row_data row)) (late_of t.size (row_data row))) (row_data row)) e
 
-  pub number_late : early_of row (full_of d row.group t) (eqb row.group group_q) ≡ 0 → (late : ℕ) → late ≡ late_of t.size (row_data row) → judge (an_arrival n d) above (row_view row) ≡ judged_by late (row_data row)
-  unfolding number_of
-  number_late e late l = let p = early_passed row e in judged_is ∙ rw (e, not_repeated p.0 p.3, l)
+  pub judged_late : early_of row (full_of d row.group t) (eqb row.group group_q) ≡ Ok tt → judge (an_arrival n d) above (row_view row) ≡ judged_by (late_of t.size (row_data row)) (row_data row)
+  judged_late e =
+      let p = early_passed row e in
+      judged_is ∙ ap₂ (λ (j : Judging) (b : Bool). judged_by (judging_of j b (late_of t.size (row_data row))) (row_data row)) e (not_repeated p.0 p.3)
 
 -- what 1, 2 and the group let through
 module _ (d : ℕ) (row : RowData) (t : Tally) where
-  pub passed : early_of row (full_of d row.group t) (eqb row.group group_q) ≡ 0 → Passed d row t
+  pub passed : early_of row (full_of d row.group t) (eqb row.group group_q) ≡ Ok tt → Passed d row t
   passed e = let p = early_passed row e in record { low = p.1; room = p.2; placed = p.3 }
 
   pub of_group_lem : Passed d row t → row.group ≡ group_q
@@ -98,10 +100,10 @@ module _ (d : ℕ) (row : RowData) (t : Tally) where
 
 -- the tally with a Q row more
 abbrev pub with_line : RowData → Tally → Tally
-with_line row t = record { size = t.size; tuples = t.tuples; roots = t.roots; lines = t.lines + 1; last = row.group; turn = t.turn & eqb row.own t.lines; rows = t.rows + 1; number = t.number }
+with_line row t = record { size = t.size; tuples = t.tuples; roots = t.roots; lines = t.lines + 1; last = row.group; turn = t.turn & eqb row.own t.lines }
 
 pub counted_line : (row : RowData) (t : Tally) → row.group ≡ group_q → counted_of row t ≡ with_line row t
-unfolding counted_of Tallies.more tuple_group either
+unfolding tuple_group either
 counted_line row t e = rw e
 
 pub tally_more : (n d : ℕ) (above : List Row) {lines new : List ℕ} (row : RowData) (t : Tally) → row_good row ≡ true → row.group ≡ group_q → ArrivalTally n d above t lines → lines_view (t.lines + 1) new ≡ lines_view t.lines lines ++ ((row_data row).process ∷ []) → ArrivalTally n d (above ++ (row_data row ∷ [])) (with_line row t) new
@@ -112,6 +114,14 @@ tally_more n d above {lines} {new} row t G e Y h =
       owned = All-append Y.owned (more (ap (λ (k : ℕ). eqb k group_q) g) done);
       lines_is = h ∙ ap (λ (xs : List Line). xs ++ ((row_data row).process ∷ [])) Y.lines_is ∙ sym (map_own (λ r. r.process) group_q above (row_data row) (ap (λ (k : ℕ). eqb k group_q) g));
       turn = turn_own above (row_data row) t.lines g ∙ ap₂ (λ (b : Bool) (k : ℕ). b & eqb k t.lines) Y.turn (own_row row G e);
-      rows = length-append above (row_data row ∷ []) ∙ ap (λ (k : ℕ). k + 1) Y.rows;
       size_is = Y.size_is;
     }
+
+-- the counts with a Q row let through
+pub room_more : (d : ℕ) (row : RowData) (t : Tally) → Passed d row t → Room d t → Room d (counted_of row t)
+room_more d row t P R = rw (counted_line row t (of_group_lem d row t P)) (record {
+  present_few = R.present_few;
+  lines_few = omega (arith, room d row t P);
+  tupleless = R.tupleless;
+  rootless = R.rootless;
+})

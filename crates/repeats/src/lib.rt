@@ -17,7 +17,6 @@ use text::UNSAID;
 pub fn pair_seen(t: &[u8; 1024], row: RowData) -> bool
     requires row_value { row_good row ≡ true }
     requires row_value_2 { in_limits (row_data row) ≡ true }
-    requires t_len { length t.now ≡ 1024 }
     requires group_value { pair_group row.group ≡ true }
     ensures { (above : List Row) → All Kept above → t.now ≡ gather 1024 pair_place (λ x. x.rights) (of_group row.group above) → result ≡ repeated above (row_data row) }
 {
@@ -29,7 +28,6 @@ pub fn pair_seen(t: &[u8; 1024], row: RowData) -> bool
 pub fn box_seen(t: &[u8; 1056], row: RowData) -> bool
     requires row_value { row_good row ≡ true }
     requires row_value_2 { in_limits (row_data row) ≡ true }
-    requires t_len { length t.now ≡ 1056 }
     requires group_value { row.group ≡ group_d }
     ensures { (above : List Row) → All Kept above → t.now ≡ put_boxes unsaid_boxes (of_group group_d above) → result ≡ repeated above (row_data row) }
 {
@@ -41,7 +39,6 @@ pub fn box_seen(t: &[u8; 1056], row: RowData) -> bool
 pub fn bound_seen(t: &[u32; 32], row: RowData) -> bool
     requires row_value { row_good row ≡ true }
     requires row_value_2 { in_limits (row_data row) ≡ true }
-    requires t_len { length t.now ≡ 32 }
     requires group_value { row.group ≡ group_b }
     ensures { (above : List Row) → All Kept above → t.now ≡ gather 32 (λ x. nth x.vars 0) (λ x. 2 ^ nth x.sites 0) (of_group group_b above) → result ≡ repeated above (row_data row) }
 {
@@ -56,9 +53,10 @@ fn key_step(i: u8, n: u8, site: u8, rest: u32) -> u32
     ensures { (result ≡ key_step i n site rest) × (result < 256 + 32 * rest) }
 {
     if i < n {
-        return site as u32 + 32 * rest;
+        u32::from(site) + 32 * rest
+    } else {
+        1
     }
-    1
 }
 
 // The sites of a tuple's bytes as one number.
@@ -83,42 +81,25 @@ fn key(row: RowData) -> u32
     key_of(entries::tuple_bytes(row))
 }
 
-// The key of a row of the group, T or A, put behind the k that stand there. A row of another group has none.
-pub fn keep_key(keys: &mut [u32; 256], k: usize, group: u8, row: RowData)
+// The key of a T or an A row, put behind the k that stand there.
+pub fn keep_key(keys: &mut [u32; 256], k: usize, row: RowData)
     requires row_value { row_good row ≡ true }
     requires row_value_2 { in_limits (row_data row) ≡ true }
-    requires group_nonzero { (0 < row.group) × (tuple_group group ≡ true) }
-    requires k_bound { row.group ≡ group → k < 256 }
-    requires keys_len { length keys.old ≡ 256 }
-    ensures keys_len_2 { length keys.new ≡ 256 }
-    ensures keys_are { (above : List Row) → KeysAre group above keys.old k → KeysAre group (above ++ (row_data row ∷ [])) keys.new (cond (eqb row.group group) (k + 1) k) }
+    requires group_value { tuple_group row.group ≡ true }
+    requires k_bound { k < 256 }
+    ensures { (above : List Row) → KeysAre row.group above keys.old k → KeysAre row.group (above ++ (row_data row ∷ [])) keys.new (k + 1) }
 {
-    if row.group != group {
-        return;
-    }
     keys[k] = key(row);
-}
-
-fn or_same(found: bool, a: u32, b: u32) -> bool
-    ensures { result ≡ either found (eqb a b) }
-{
-    if found {
-        return true;
-    }
-    a == b
 }
 
 // Whether k is one of the first n keys. All are tested: that is faster than to stop at the first.
 fn has_key(keys: &[u32; 256], n: usize, k: u32) -> bool
-    requires n_bound { n ≤ 256 }
-    requires keys_len { length keys.now ≡ 256 }
+    requires { n ≤ 256 }
     ensures { result ≡ any (λ x. eqb x k) (take n keys.now) }
 {
     let mut found = false;
-    let mut i: usize = 0;
-    while i < n {
-        found = or_same(found, keys[i], k);
-        i += 1;
+    for key in &keys[..n] {
+        found |= *key == k;
     }
     found
 }
@@ -127,7 +108,6 @@ fn has_key(keys: &[u32; 256], n: usize, k: u32) -> bool
 pub fn tuple_seen(keys: &[u32; 256], n: usize, row: RowData) -> bool
     requires row_value { row_good row ≡ true }
     requires row_value_2 { in_limits (row_data row) ≡ true }
-    requires keys_len { length keys.now ≡ 256 }
     requires group_value { tuple_group row.group ≡ true }
     requires n_bound { n ≤ 256 }
     ensures { (above : List Row) → All Kept above → KeysAre row.group above keys.now n → result ≡ repeated above (row_data row) }
@@ -137,28 +117,21 @@ pub fn tuple_seen(keys: &[u32; 256], n: usize, row: RowData) -> bool
 
 // Whether root i of a table is line q at site s.
 fn root_is(roots: &[u8; 128], i: usize, s: u8, q: u8) -> bool
-    requires i_bound { i < 64 }
-    requires roots_len { length roots.now ≡ 128 }
+    requires { i < 64 }
     ensures { result ≡ root_same s q (root_at roots.now i) }
 {
-    if roots[ROOT * i] != s {
-        return false;
-    }
-    roots[ROOT * i + 1] == q
+    roots[ROOT * i] == s && roots[ROOT * i + 1] == q
 }
 
 // Whether one of the n roots of a table is line q at site s.
 fn has_root(roots: &[u8; 128], n: usize, s: u8, q: u8) -> bool
-    requires n_bound { n ≤ 64 }
-    requires roots_len { length roots.now ≡ 128 }
+    requires { n ≤ 64 }
     ensures { result ≡ any (root_same s q) (roots_view n roots.now) }
 {
-    let mut i: usize = 0;
-    while i < n {
+    for i in 0..n {
         if root_is(roots, i, s, q) {
             return true;
         }
-        i += 1;
     }
     false
 }
@@ -167,7 +140,6 @@ fn has_root(roots: &[u8; 128], n: usize, s: u8, q: u8) -> bool
 pub fn root_seen(roots: &[u8; 128], n: usize, row: RowData) -> bool
     requires row_value { row_good row ≡ true }
     requires row_value_2 { in_limits (row_data row) ≡ true }
-    requires roots_len { length roots.now ≡ 128 }
     requires group_value { row.group ≡ group_l }
     requires n_bound { n ≤ 64 }
     ensures { (above : List Row) → All Kept above → roots_view n roots.now ≡ map root_of (of_group group_l above) → result ≡ repeated above (row_data row) }

@@ -1,7 +1,7 @@
 -- The tests on the rows above, read off a tally of them.
 -- Assumes nothing.
-use mathlib.Core.Path.{◌≡◌, refl, sym, ap, ◌∙◌}
-use mathlib.Core.Bool.{Bool, true, false, false≢true}
+use mathlib.Core.Path.{◌≡◌, refl, sym, ap, subst, ◌∙◌}
+use mathlib.Core.Bool.{Bool, true, false, cond, ◌&&◌, false≢true}
 use mathlib.Core.List.{List, [], ◌∷◌, ◌++◌, map}
 use Prim.Native.Nat.{ℕ, ◌+◌}
 use native.Mathlib.Omega.{arith}
@@ -11,18 +11,27 @@ use borrow.Author.Tests.{lt-ltb}
 use Rattle.sets.specs.Lists.{All, done, more, ◌&◌, only, keep, below, same, ◌⧺◌}
 use Rattle.sets.proofs.Lists.{eqb_eq, and_true, and_false, and_assoc}
 use Rattle.sets.proofs.Runs.{below_snoc}
-use Rattle.klaim.specs.Rows.{Row, group_n, group_q, row_line}
+use Rattle.klaim.specs.Rows.{Row, group_n, group_l, group_q, row_line}
 use Rattle.klaim.specs.Reader.{Text, of_group, own, nth, numbers_of}
 use Rattle.klaim.proofs.Above.{map_other, map_own}
 use Rattle.judge.proofs.Limits.{Good, q_row, plain_row_lem, good}
 use Rattle.forms.specs.declared.RowData.{RowData}
-use Rattle.forms.specs.Forms.{row_data, row_good, plain_row}
+use Rattle.forms.specs.Forms.{row_data, row_good, plain_row, tuple_group}
+use Rattle.scan.specs.declared.Tally.{Tally}
+use Rattle.scan.specs.Tallies as Tallies
+use Rattle.scan.specs.Tallies.{counted_of}
 
 -- a test that is asked for only where another holds
 pub and_under : (a : Bool) {x y : Bool} → (a ≡ true → x ≡ y) → a & x ≡ a & y
 unfolding ◌&◌
 and_under true h = h refl
 and_under false h = refl
+
+-- the code's test of both
+pub and_both : (a b : Bool) → (a && b) ≡ a & b
+unfolding ◌&◌
+and_both true b = refl
+and_both false b = refl
 
 -- two lists with a number more behind each
 pub same_snoc : (xs ys : List ℕ) (x y : ℕ) → same (xs ++ (x ∷ [])) (ys ++ (y ∷ [])) ≡ same xs ys & eqb x y
@@ -80,3 +89,17 @@ module _ (r : RowData) (G : row_good r ≡ true) where
       go : Good r → nth (row_data r).lines 0 ≡ r.own
       go (q_row q k l P o) = rw (lt-ltb 0 r.line.kind k)
       go (plain_row_lem q k P) = absurd (false≢true (sym q ∙ rw e))
+
+-- the tally with a row of group g
+abbrev pub grown : RowData → Tally → ℕ → Tally
+grown r t g = record {
+  size = cond (eqb g group_n) r.size t.size;
+  tuples = Tallies.more (tuple_group g) t.tuples;
+  roots = Tallies.more (eqb g group_l) t.roots;
+  lines = Tallies.more (eqb g group_q) t.lines;
+  last = g;
+  turn = cond (eqb g group_q) (t.turn & eqb r.own t.lines) t.turn;
+}
+
+pub at_group : (P : Tally → Type 0) (row : RowData) (t : Tally) (g : ℕ) → row.group ≡ g → P (grown row t g) → P (counted_of row t)
+at_group P row t g e p = subst (λ (g : ℕ). P (grown row t g)) (sym e) p

@@ -8,10 +8,10 @@ use Rattle.forms.specs.Forms.{tuple_group}
 use Rattle.scan.specs.declared.Tally.{Tally}
 
 -- one more, if the row is of the group
-unfoldable pub more : Bool → ℕ → ℕ
+abbrev pub more : Bool → ℕ → ℕ
 more b k = cond b (k + 1) k
 
-unfoldable pub counted_of : RowData → Tally → Tally
+abbrev pub counted_of : RowData → Tally → Tally
 counted_of r t = record {
   size = cond (eqb r.group group_n) r.size t.size;
   tuples = more (tuple_group r.group) t.tuples;
@@ -19,10 +19,8 @@ counted_of r t = record {
   lines = more (eqb r.group group_q) t.lines;
   last = r.group;
   turn = cond (eqb r.group group_q) (t.turn & eqb r.own t.lines) t.turn;
-  rows = t.rows + 1;
-  number = t.number;
 }
 
 -- the tally of no rows, n given
-unfoldable pub start_of : ℕ → Tally
-start_of n = record { size = n; tuples = 0; roots = 0; lines = 0; last = 0; turn = true; rows = 0; number = 0 }
+abbrev pub start_of : ℕ → Tally
+start_of n = record { size = n; tuples = 0; roots = 0; lines = 0; last = 0; turn = true }

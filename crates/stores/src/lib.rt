@@ -39,9 +39,7 @@ pub fn put_pair(t: &mut [u8; 1024], row: RowData)
     requires row_value { row_good row ≡ true }
     requires row_value_2 { in_limits (row_data row) ≡ true }
     requires group_value { pair_group row.group ≡ true }
-    requires t_len { length t.old ≡ 1024 }
-    ensures t_len_2 { length t.new ≡ 1024 }
-    ensures t_after { (above : List Row) → t.old ≡ gather 1024 pair_place (λ x. x.rights) (of_group row.group above) → t.new ≡ gather 1024 pair_place (λ x. x.rights) (of_group row.group (above ++ (row_data row ∷ []))) }
+    ensures { (above : List Row) → t.old ≡ gather 1024 pair_place (λ x. x.rights) (of_group row.group above) → t.new ≡ gather 1024 pair_place (λ x. x.rights) (of_group row.group (above ++ (row_data row ∷ []))) }
 {
     let rights = row.rights;
     let at = pair_place(row);
@@ -78,9 +76,7 @@ pub fn put_box(t: &mut [u8; 1056], row: RowData)
     requires row_value { row_good row ≡ true }
     requires row_value_2 { in_limits (row_data row) ≡ true }
     requires group_value { row.group ≡ group_d }
-    requires t_len { length t.old ≡ 1056 }
-    ensures t_len_2 { length t.new ≡ 1056 }
-    ensures by_index { (start : List ℕ) (above : List Row) → t.old ≡ put_boxes start (of_group group_d above) → t.new ≡ put_boxes start (of_group group_d (above ++ (row_data row ∷ []))) }
+    ensures { (start : List ℕ) (above : List Row) → t.old ≡ put_boxes start (of_group group_d above) → t.new ≡ put_boxes start (of_group group_d (above ++ (row_data row ∷ []))) }
 {
     let rights = row.rights;
     let at = box_place(row);
@@ -116,9 +112,7 @@ pub fn put_bound(t: &mut [u32; 32], row: RowData)
     requires row_value { row_good row ≡ true }
     requires row_value_2 { in_limits (row_data row) ≡ true }
     requires group_value { row.group ≡ group_b }
-    requires t_len { length t.old ≡ 32 }
-    ensures t_len_2 { length t.new ≡ 32 }
-    ensures t_after { (above : List Row) → t.old ≡ gather 32 (λ x. nth x.vars 0) (λ x. 2 ^ nth x.sites 0) (of_group row.group above) → t.new ≡ gather 32 (λ x. nth x.vars 0) (λ x. 2 ^ nth x.sites 0) (of_group row.group (above ++ (row_data row ∷ []))) }
+    ensures { (above : List Row) → t.old ≡ gather 32 (λ x. nth x.vars 0) (λ x. 2 ^ nth x.sites 0) (of_group row.group above) → t.new ≡ gather 32 (λ x. nth x.vars 0) (λ x. 2 ^ nth x.sites 0) (of_group row.group (above ++ (row_data row ∷ []))) }
 {
     let at = variable_of(row);
     let site = sets::single(site_of(row));
@@ -131,12 +125,10 @@ pub fn put_row(rows: &mut [u8; 1536], k: usize, row: RowData)
     requires row_value_2 { in_limits (row_data row) ≡ true }
     requires group_value { tuple_group row.group ≡ true }
     requires k_bound { k < 256 }
-    requires rows_len { length rows.old ≡ 1536 }
-    ensures rows_len_2 { length rows.new ≡ 1536 }
-    ensures rows_after { rows_view (k + 1) rows.new ≡ rows_view k rows.old ++ ((row_data row).sites ∷ []) }
+    ensures { rows_view (k + 1) rows.new ≡ rows_view k rows.old ++ ((row_data row).sites ∷ []) }
 {
     let bytes = entries::tuple_bytes(row);
-    places::put_tuple(rows, k, bytes);
+    places::put_at(rows, k, bytes);
 }
 
 // The line of an L row.
@@ -156,9 +148,7 @@ pub fn put_root(roots: &mut [u8; 128], k: usize, row: RowData)
     requires row_value_2 { in_limits (row_data row) ≡ true }
     requires group_value { row.group ≡ group_l }
     requires k_bound { k < 64 }
-    requires roots_len { length roots.old ≡ 128 }
-    ensures roots_len_2 { length roots.new ≡ 128 }
-    ensures roots_after { roots_view (k + 1) roots.new ≡ roots_view k roots.old ++ (root_of (row_data row) ∷ []) }
+    ensures { roots_view (k + 1) roots.new ≡ roots_view k roots.old ++ (root_of (row_data row) ∷ []) }
 {
     let site = site_of(row);
     let line = line_of(row);
@@ -173,10 +163,8 @@ pub fn put_process(lines: &mut [u8; 2560], q: usize, row: RowData)
     requires row_value_2 { in_limits (row_data row) ≡ true }
     requires group_value { row.group ≡ group_q }
     requires q_bound { q < 256 }
-    requires lines_len { length lines.old ≡ 2560 }
-    ensures lines_len_2 { length lines.new ≡ 2560 }
-    ensures lines_after { lines_view (q + 1) lines.new ≡ lines_view q lines.old ++ ((row_data row).process ∷ []) }
+    ensures { lines_view (q + 1) lines.new ≡ lines_view q lines.old ++ ((row_data row).process ∷ []) }
 {
     let bytes = entries::line_bytes(row);
-    places::put_line(lines, q, bytes);
+    places::put_at(lines, q, bytes);
 }

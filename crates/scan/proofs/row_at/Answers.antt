@@ -1,6 +1,6 @@
 use mathlib.Core.Path.{refl}
 use Rattle.scan.proofs.Progress.{row_whole, row_left}
-use Rattle.scan.proofs.Numbers.{no_row_good}
+use Rattle.scan.proofs.Reasons.{no_row_good}
 use Rattle.scan.proofs.row_at.Goals as goal
 
 pub returns-then-end-s : goal.returns-then-end-s

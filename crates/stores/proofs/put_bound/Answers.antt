@@ -1,6 +1,5 @@
 use Rattle.stores.proofs.Stores.{bound_put}
 use Rattle.stores.proofs.Shapes.{bound_row}
-use lib.ListN.{length-set}
 use Rattle.sets.specs.Bits.{join}
 use Rattle.sets.specs.Lists.{either}
 use Rattle.stores.specs.Stores.{site_group}
@@ -12,4 +11,4 @@ site_of-requires c = record { row_value = c.requires.row_value; row_value_2 = c.
 
 pub returns : goal.returns
 unfolding join
-returns c = record { t_len_2 = rw length-set c.requires.t_len; t_after = bound_put (bound_row c.args.row c.requires.row_value c.requires.row_value_2 c.requires.group_value) c.args.t.now _ _ _ c.variable_of-at.ensures c.site_of.ensures.0 c.single-site.ensures }
+returns c = bound_put (bound_row c.args.row c.requires.row_value c.requires.row_value_2 c.requires.group_value) c.args.t.now _ _ _ c.variable_of-at.ensures c.site_of.ensures.0 c.single-site.ensures
