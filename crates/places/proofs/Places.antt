@@ -1,34 +1,17 @@
 -- Laws of bytes put into a table.
 -- Assumes nothing.
-use mathlib.Core.Path.{◌≡◌, refl, ap, ◌∙◌}
-use native.Mathlib.Decide.{ℕ_discrete}
+use mathlib.Core.Path.{◌≡◌, ap, ◌∙◌}
 use mathlib.Core.List.{List, [], ◌∷◌, ◌++◌}
 use Prim.Native.Nat.{ℕ, ◌+◌, ◌*◌, ◌≤◌, ◌<◌}
 use native.Mathlib.Nat.{zero-add}
 use native.Mathlib.Numerals.{add-one}
 use native.Mathlib.Omega.{arith}
-use lib.ListN.{length, get_or, set, length-set}
-use lib.Seq.{get_or-set_same, get_or-set_other}
+use lib.ListN.{length}
 use Rattle.sets.specs.Lists.{table}
 use Rattle.sets.proofs.Tables.{same_table, table_snoc}
 use Rattle.tables.specs.View.{line_of, lines_view, row_at, rows_view}
 use Rattle.tables.proofs.Bytes.{line_same, row_same}
 use Rattle.places.specs.Places.{Put}
-
-pub put_none : (t b : List ℕ) (from : ℕ) → Put t b from 0 t
-put_none t b from = record { long = refl; done = λ j h. absurd (omega arith); above = λ k h. refl; behind = λ k h. refl }
-
-pub put_more : {t b l : List ℕ} {from n : ℕ} → Put t b from n l → from + n < length t → Put t b from (n + 1) (set l (from + n) (get_or b n 0))
-put_more {t} {b} {l} {from} {n} P h = record {
-  long = length-set l (from + n) (get_or b n 0) ∙ P.long;
-  done = λ j g. at j g (ℕ_discrete j n);
-  above = λ k g. get_or-set_other l (from + n) k (get_or b n 0) 0 (λ e. omega arith) ∙ P.above k g;
-  behind = λ k g. get_or-set_other l (from + n) k (get_or b n 0) 0 (λ e. omega arith) ∙ P.behind k (omega arith);
-}
-  where
-    at : (j : ℕ) → j < n + 1 → Dec (j ≡ n) → get_or (set l (from + n) (get_or b n 0)) (from + j) 0 ≡ get_or b j 0
-    at j g (yes e) = rw e (get_or-set_same l (from + n) (get_or b n 0) 0 (omega (arith, P.long)))
-    at j g (no e) = get_or-set_other l (from + n) (from + j) (get_or b n 0) 0 (λ z. e (omega arith)) ∙ P.done j (omega arith)
 
 -- an entry that is put behind the first n keeps these
 pub grown : {A : Type 0} (n : ℕ) (f g : ℕ → A) (x : A) → ((k : ℕ) → k < n → f k ≡ g k) → f n ≡ x → table (n + 1) f ≡ table n g ++ (x ∷ [])

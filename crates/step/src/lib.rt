@@ -165,7 +165,7 @@ fn change_tuples(rows: &mut [u8; 1536], n: usize, m: usize, change: u8, row: [u8
     ensures table_after { TableAfter rows.old n m (cond (eqb change 1) (n + 1) (cond (eqb change 2) (n - 1) n)) rows.new }
 {
     if change == plan::APPENDED {
-        places::put_tuple(rows, n, row);
+        places::put_at(rows, n, row);
         return;
     }
     if change == plan::TAKEN {
