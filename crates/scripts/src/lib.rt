@@ -7,6 +7,7 @@ ghost use Rattle.std.specs.declared.io.Error.{Error};
 ghost use Rattle.script_rows.specs.Window.{Within};
 ghost use Rattle.state.specs.Fits.{Fits};
 ghost use Rattle.step.specs.Stepped.{Stepped};
+ghost use Rattle.brings.specs.Brought.{Brought};
 ghost use Rattle.withdraws.specs.Withdrawn.{Withdrawn};
 
 use commands::{Choice, Command};
@@ -62,44 +63,55 @@ fn say_ready<W: Write>(output: &mut W, answer: ReadyAnswer) -> io::Result<()> {
 }
 
 // A step, guarded or bare.
-fn act(state: State, guarded: bool, choice: Choice) -> State
-    requires { Fits state }
-    ensures { Stepped guarded state choice.thread choice.tuple choice.root result }
+fn act(state: &mut State, guarded: bool, choice: Choice)
+    requires { Fits state.old }
+    ensures { Stepped guarded state.old choice.thread choice.tuple choice.root state.new }
 {
-    let nlines = state.nlines;
-    let narrivals = state.narrivals;
-    let run = state.run;
-    let mut next = state;
-    next.run = step::step(
+    state.run = step::step(
         &state.net.homes,
         &state.net.boxes,
         &state.estimate.binds,
         &state.lines,
-        nlines,
+        state.nlines,
         &state.arrivals,
-        narrivals,
+        state.narrivals,
         &state.sound,
-        &mut next.tuples,
-        run,
+        &mut state.tuples,
+        state.run,
         guarded,
         choice.thread,
         choice.tuple,
         choice.root,
     );
-    next
 }
 
-// The state behind a command; `rows` are those of a `bring`.
-fn obey(state: State, command: Command, rows: &[u8]) -> State
-    requires { Fits state }
-    ensures { Fits result }
+// An arrival's rows brought. The calls by value have functions of their own: where one is called, room for a state is cleared.
+fn bring(state: &mut State, rows: &[u8])
+    requires { Fits state.old }
+    ensures { Brought state.old rows.now state.new }
+{
+    *state = brings::bring(*state, rows);
+}
+
+// The newest arrival sent away.
+fn withdraw(state: &mut State)
+    requires { Fits state.old }
+    ensures { Withdrawn state.old state.new }
+{
+    *state = withdraws::withdraw(*state);
+}
+
+// Does what a command says to the state; `rows` are those of a `bring`.
+fn obey(state: &mut State, command: Command, rows: &[u8])
+    requires { Fits state.old }
+    ensures { Fits state.new }
 {
     match command {
         Command::Step(choice) => act(state, false, choice),
         Command::Guarded(choice) => act(state, true, choice),
-        Command::Bring => brings::bring(state, rows),
-        Command::Withdraw => withdraws::withdraw(state),
-        Command::Door { .. } | Command::Ready | Command::Overlong | Command::Bad => state,
+        Command::Bring => bring(state, rows),
+        Command::Withdraw => withdraw(state),
+        Command::Door { .. } | Command::Ready | Command::Overlong | Command::Bad => {}
     }
 }
 
@@ -158,7 +170,7 @@ fn turn<R: Read, W: Write>(
     let Some(command) = asked else {
         return Ok(false);
     };
-    *state = obey(*state, command, &buf[window.from..window.row]);
+    obey(state, command, &buf[window.from..window.row]);
     respond(output, state, command).map_err(Failure::Unwritten)?;
     Ok(true)
 }
