@@ -215,48 +215,19 @@ pub fn number(f: &[u8]) -> Option<u16>
     Some(n)
 }
 
-// A decimal number of any length; `is` says whether a field is one. What does not fit is as good as the largest.
-#[derive(Clone, Copy)]
-pub struct Spelled {
-    pub is: bool,
-    pub value: usize,
-}
-
-// A number with a digit more.
-fn longer(n: usize, digit: usize) -> usize
-    requires { digit < 10 }
-{
-    if (usize::MAX - digit) / 10 < n {
-        return usize::MAX;
+// At least one digit, and nothing else: a decimal number of any length. What does not fit is as good as the largest.
+pub fn decimal(f: &[u8]) -> Option<usize> {
+    if f.is_empty() {
+        return None;
     }
-    10 * n + digit
-}
-
-// At least one digit, and nothing else.
-pub fn decimal(f: &[u8]) -> Spelled {
     let mut n: usize = 0;
-    let mut i = 0;
-    while i < f.len() {
-        let b = f[i];
-        if b < b'0' {
-            return Spelled {
-                is: false,
-                value: 0,
-            };
+    for b in f {
+        if !b.is_ascii_digit() {
+            return None;
         }
-        if b'9' < b {
-            return Spelled {
-                is: false,
-                value: 0,
-            };
-        }
-        n = longer(n, (b - b'0') as usize);
-        i += 1;
+        n = n.saturating_mul(10).saturating_add(usize::from(*b - b'0'));
     }
-    Spelled {
-        is: 0 < f.len(),
-        value: n,
-    }
+    Some(n)
 }
 
 // A letter and a number.
