@@ -1,4 +1,3 @@
 pub mod Rows
-pub mod Loop
 pub mod Whole
 pub mod Present

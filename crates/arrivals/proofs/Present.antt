@@ -12,9 +12,9 @@ use borrow.Author.Tests.{le-leb}
 use Rattle.sets.specs.Lists.{◌&◌, either}
 use Rattle.sets.proofs.Lists.{leb_le, nleb_lt}
 use Rattle.klaim.specs.Limits.{tuple_limit, thread_limit, line_limit}
-use Rattle.klaim.specs.Process.{template, clash}
+use Rattle.klaim.specs.Process.{Line, template, clash}
 use Rattle.klaim.specs.Rows.{Row, group_t, group_l, group_q, group_a, rows_of}
-use Rattle.klaim.specs.Reader.{Answer, refused, and_then, an_arrival, in_limits, of_group, present, full, over, headed, own, in_order, repeated, misplaced, site_count, absent, Judged, bad, good, judge, scan, read_rows, whole, numbers_of, lines_of, read_arrival}
+use Rattle.klaim.specs.Reader.{Answer, refused, gives, and_then, an_arrival, in_limits, of_group, present, full, over, headed, own, in_order, repeated, misplaced, site_count, absent, Judged, bad, good, judge, scan, read_rows, whole, numbers_of, lines_of, read_arrival}
 
 room_same : (d k : ℕ) → leb line_limit (min d 256 + k) ≡ leb line_limit (d + k)
 room_same d k = go (leb 256 d) refl
@@ -45,3 +45,21 @@ module _ (n d : ℕ) where
   pub arrival_clamped : (bytes : List ℕ) → read_arrival n (min d 256) bytes ≡ read_arrival n d bytes
   unfolding read_arrival read_rows
   arrival_clamped bytes = ap (λ (a : Answer (List Row)). and_then a (λ rows. whole (numbers_of rows) (lines_of rows) (0 ∷ []) (lines_of rows))) (scan_same [] (rows_of bytes))
+
+-- what the reading of the rows comes to
+module _ (n d : ℕ) (bytes : List ℕ) where
+  rows_refused : {number row : ℕ} → read_rows (an_arrival n d) bytes ≡ refused number row → refused number row ≡ read_arrival n d bytes
+  unfolding read_arrival and_then
+  rows_refused e = rw e
+
+  rows_given : {rows : List Row} → read_rows (an_arrival n d) bytes ≡ gives rows → whole (numbers_of rows) (lines_of rows) (0 ∷ []) (lines_of rows) ≡ read_arrival n d bytes
+  unfolding read_arrival and_then
+  rows_given e = rw e
+
+-- the arrival that is read behind so many lines is that behind d
+module _ (n d k : ℕ) (few : k ≡ min d 256) (bytes : List ℕ) where
+  pub behind_refused : {number row : ℕ} → read_rows (an_arrival n k) bytes ≡ refused number row → refused number row ≡ read_arrival n d bytes
+  behind_refused e = rows_refused n k bytes e ∙ ap (λ (j : ℕ). read_arrival n j bytes) few ∙ arrival_clamped n d bytes
+
+  pub behind_read : {rows : List Row} → read_rows (an_arrival n k) bytes ≡ gives rows → {a : Answer (List Line)} → a ≡ whole (numbers_of rows) (lines_of rows) (0 ∷ []) (lines_of rows) → a ≡ read_arrival n d bytes
+  behind_read e q = q ∙ rows_given n k bytes e ∙ ap (λ (j : ℕ). read_arrival n j bytes) few ∙ arrival_clamped n d bytes

@@ -1,46 +1,40 @@
--- The tests over the whole of an arrival.
+-- The reader of an arrival before its first row, and the arrival behind its last one.
 -- Assumes nothing.
 use mathlib.Core.Path.{◌≡◌, refl, sym, ap, ◌∙◌}
-use mathlib.Core.Bool.{Bool, cond}
+use mathlib.Core.Bool.{Bool}
 use mathlib.Core.List.{List, [], ◌∷◌, map}
-use Prim.Native.Nat.{ℕ, ◌≤◌}
-use lib.Dec.{eqb}
+use Prim.Native.Nat.{ℕ}
 use lib.ListN.{length, replicate}
-use borrow.Author.Tests.{ne_eqb}
-use Rattle.sets.specs.Lists.{below, same, table, table_from}
+use Rattle.sets.specs.Lists.{done, keep, table, table_from, below, same}
 use Rattle.klaim.specs.Process.{Line}
 use Rattle.klaim.specs.Rows.{Row}
-use Rattle.klaim.specs.Reader.{Answer, refused, gives, and_then, numbers_of, lines_of, whole, read_arrival}
+use Rattle.klaim.specs.Reader.{Text, an_arrival, of_group, whole, numbers_of, lines_of}
 use Rattle.tables.specs.View.{lines_view, roots_view, root_at}
 use Rattle.tables.proofs.LineTable.{length_view}
-use Rattle.whole.specs.Number.{whole_number}
-use Rattle.whole.proofs.Number.{whole_is}
-use Rattle.arrivals.specs.declared.ArrivalRows.{ArrivalRows}
-use Rattle.arrivals.specs.Read.{arrival_answer, RowsRead, taken, refusal}
+use Rattle.scan.specs.Tallies.{start_of}
+use Rattle.whole.specs.Reasons.{whole_of, whole_answer}
+use Rattle.whole.proofs.Reasons.{whole_is}
+use Rattle.arrivals.specs.declared.reading.ArrivalReader.{ArrivalReader}
+use Rattle.arrivals.specs.Rows.{ArrivalHolds}
+
+pub nothing_held : (n d : ℕ) (r : ArrivalReader) → r.present ≡ d → r.tally ≡ start_of n → ArrivalHolds (an_arrival n d) [] r
+unfolding lines_view lines_of numbers_of of_group keep table table_from below same
+nothing_held n d r p t = record {
+  n = n;
+  text = rw p;
+  counts = record { owned = done; lines_is = rw t; turn = rw t; size_is = rw t };
+}
 
 -- a table of zeros has line 0 as its first root
-pub root_zero : (turn : Bool) (ls : List Line) → whole_number turn ls (map (λ x. x.line) (roots_view 1 (replicate 128 0))) ≡ whole_number turn ls (0 ∷ [])
+pub root_zero : (turn : Bool) (ls : List Line) → whole_of turn ls (map (λ x. x.line) (roots_view 1 (replicate 128 0))) ≡ whole_of turn ls (0 ∷ [])
 unfolding roots_view table table_from root_at
 root_zero turn ls = refl
 
--- what the rows come to
-module _ (n d : ℕ) (s : List ℕ) (r : ArrivalRows) where
-  pub arrival_refused : RowsRead n d s r → (r.number ≡ 0 → ⊥) → arrival_answer (record { number = r.number; row = r.row; lines = r.lines; count = r.count }) ≡ read_arrival n d s
-  unfolding arrival_answer read_arrival and_then
-  arrival_refused (taken rows z e T) h = absurd (h z)
-  arrival_refused (refusal z e) h = rw (ne_eqb r.number 0 h, e)
-
-  pub arrival_few : RowsRead n d s r → r.number ≡ 0 → r.count ≤ 256
-  arrival_few (taken rows z e T) h = T.few
-  arrival_few (refusal z e) h = absurd (z h)
-
-  pub arrival_whole : RowsRead n d s r → r.number ≡ 0 → (number : ℕ) → number ≡ whole_number r.turn (lines_view r.count r.lines) (0 ∷ []) → arrival_answer (record { number = number; row = 0; lines = r.lines; count = r.count }) ≡ read_arrival n d s
-  unfolding arrival_answer read_arrival and_then
-  arrival_whole (refusal z e) h number q = absurd (z h)
-  arrival_whole (taken rows z e T) h number q =
-      let ls = lines_view r.count r.lines in
-      let t : same (numbers_of rows) (below (length ls)) ≡ r.turn = ap (λ (k : ℕ). same (numbers_of rows) (below k)) (length_view r.count r.lines) ∙ T.turn in
-      ap (λ (k : ℕ). cond (eqb k 0) (gives ls) (refused k 0)) q
-      ∙ sym (whole_is r.turn (numbers_of rows) ls (0 ∷ []) ls t)
-      ∙ ap (λ (l : List Line). whole (numbers_of rows) l (0 ∷ []) l) T.lines_is
-      ∙ ap (λ (a : Answer (List Row)). and_then a (λ rows. whole (numbers_of rows) (lines_of rows) (0 ∷ []) (lines_of rows))) (sym e)
+-- "Then 5, 6, 8, each over the whole text."
+pub arrival_is : {t : Text} {rows : List Row} {r : ArrivalReader} → ArrivalHolds t rows r → whole_answer (whole_of r.tally.turn (lines_view r.tally.lines r.lines) (map (λ x. x.line) (roots_view 1 (replicate 128 0)))) (lines_view r.tally.lines r.lines) ≡ whole (numbers_of rows) (lines_of rows) (0 ∷ []) (lines_of rows)
+arrival_is {t} {rows} {r} H =
+    let ls = lines_view r.tally.lines r.lines in
+    let turn : same (numbers_of rows) (below (length ls)) ≡ r.tally.turn = ap (λ (k : ℕ). same (numbers_of rows) (below k)) (length_view r.tally.lines r.lines) ∙ H.counts.turn in
+    ap (λ j. whole_answer j ls) (root_zero r.tally.turn ls)
+    ∙ sym (whole_is r.tally.turn (numbers_of rows) ls (0 ∷ []) ls turn)
+    ∙ ap (λ (l : List Line). whole (numbers_of rows) l (0 ∷ []) l) H.counts.lines_is

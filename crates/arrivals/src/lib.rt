@@ -1,149 +1,111 @@
 //! An arrival, read from its bytes: the Q rows that a bring takes.
 #![tactic(auto)]
 
-ghost use Rattle.std.specs.Prelude.{◌≡◌, true, List, [], ◌∷◌, ℕ, ◌≤◌, min, length};
-ghost use Rattle.klaim.specs.Rows.{Row};
-ghost use Rattle.klaim.specs.Reader.{an_arrival, judge, read_arrival};
-ghost use Rattle.tables.specs.View.{lines_view};
-ghost use Rattle.forms.specs.Forms.{row_view, row_data, row_good};
-ghost use Rattle.scan.specs.Numbers.{judged_by};
-ghost use Rattle.whole.specs.Number.{whole_number};
-ghost use Rattle.arrivals.specs.Rows.{ArrivalTally, Passed, full_of};
-ghost use Rattle.arrivals.specs.Read.{arrival_answer, RowsRead};
+ghost use Rattle.std.specs.Prelude.{◌≡◌, List, [], ◌∷◌, ◌++◌, ℕ, ◌≤◌, eqb, OnOk};
+ghost use Rattle.klaim.specs.Rows as Spec;
+ghost use Rattle.klaim.specs.Rows.{group_q};
+ghost use Rattle.klaim.specs.Reader.{Text, an_arrival, judge, whole, numbers_of, lines_of, read_arrival};
+ghost use Rattle.klaim.specs.Refusals.{answer_of};
+ghost use Rattle.std.proofs.Math.Option.{some};
+ghost use Rattle.forms.specs.Forms.{group_number, row_data};
+ghost use Rattle.scan.specs.Reasons.{judged_by};
+ghost use Rattle.scan.specs.Tallies.{counted_of};
+ghost use Rattle.arrivals.specs.Rows.{ArrivalTally, ArrivalHolds, Passed, full_of};
+ghost use Rattle.arrivals.specs.Read.{arrival_view};
 
-use forms::RowData;
-use scan::Tally;
+mod reading;
+
+use forms::{Group, Row};
+use klaim::{Reason, Refusal};
+use reading::ArrivalReader;
+use scan::{Reader, Tally};
 use tables::LINES;
-use text::GROUP_Q;
 
-// The lines of an arrival, or the number of a refusal and its row; the number is 0 if there is none.
+// The lines of an arrival.
 #[derive(Clone, Copy)]
-pub struct ArrivalRead {
-    pub number: u8,
-    pub row: usize,
+pub struct Arrival {
     pub lines: [u8; 2560],
     pub count: usize,
 }
 
-// The rows alone, and whether their numbers are in turn.
-#[derive(Clone, Copy)]
-struct ArrivalRows {
-    number: u8,
-    row: usize,
-    turn: bool,
-    lines: [u8; 2560],
-    count: usize,
+// Whether a group is that of an arrival's rows.
+fn is_own(group: Group) -> bool
+    ensures { result ≡ eqb (group_number group) group_q }
+{
+    group == Group::Q
 }
 
-// Whether no row of this group may follow; d lines are present.
-fn is_full(group: u8, tally: Tally, d: usize) -> bool
-    requires { (d ≤ 256) × (tally.lines ≤ 256) }
-    ensures { result ≡ full_of d group tally }
-{
-    let lines = tally.lines;
-    if group == GROUP_Q {
-        return LINES <= d + lines;
-    }
-    false
-}
-
-// The number by which the row is refused, or 0.
-fn row_number(row: RowData, tally: Tally, d: usize) -> u8
-    requires row_value { row_good row ≡ true }
-    requires d_bound { (d ≤ 256) × (tally.lines ≤ 256) }
-    ensures by_index { (n : ℕ) (above : List Row) (lines : List ℕ) → ArrivalTally n d above tally lines → judge (an_arrival n d) above (row_view row) ≡ judged_by result (row_data row) }
-    ensures passed { result ≡ 0 → Passed d row tally }
-{
-    let group = row.group;
-    let first = scan::early(row, is_full(group, tally, d), group == GROUP_Q);
-    if first != 0 {
-        return first;
-    }
-    scan::late(row, tally.size)
-}
-
-// The rows of an arrival.
-fn read_rows(n: u8, d: usize, s: &[u8]) -> ArrivalRows
-    requires { d ≤ 256 }
-    ensures { RowsRead n d s.now result }
-{
-    let mut lines = [0u8; 2560];
-    let mut tally = scan::start(n);
-    let mut at = 0;
-    while at < s.len() {
-        let next = scan::row_at(s, at);
-        let row = next.row;
-        let end = next.end;
-        let number = row_number(row, tally, d);
-        if number == 0 {
-            stores::put_process(&mut lines, tally.lines, row);
-            tally = scan::counted(row, tally);
-            at = end + 1;
-        } else {
-            tally = scan::turned_away(tally, number);
-            at = s.len();
+impl ArrivalReader {
+    // Nothing is read; among n sites, behind the lines that are present.
+    fn new(n: u8, present: usize) -> ArrivalReader
+        requires { present ≤ 256 }
+        ensures { ArrivalHolds (an_arrival n present) [] result }
+    {
+        ArrivalReader {
+            lines: [0; 2560],
+            tally: Tally::start(n),
+            present,
         }
     }
-    let number = tally.number;
-    let row = tally.rows;
-    let turn = tally.turn;
-    let count = tally.lines;
-    ArrivalRows {
-        number,
-        row,
-        turn,
-        lines,
-        count,
+
+    // Whether no row of this group may follow.
+    fn is_full(&self, group: Group) -> bool
+        ensures { result ≡ full_of self.now.present (group_number group) self.now.tally }
+    {
+        // `&` has no branch, so that the proof has one path.
+        is_own(group) & (LINES <= self.present + self.tally.lines)
+    }
+
+    // Whether the row is let through.
+    fn admits(&self, row: &Row) -> Result<(), Reason>
+        ensures judged { (t : Text) (above : List Spec.Row) → ArrivalHolds t above self.now → judge t above (some (row_data row.now)) ≡ judged_by result (row_data row.now) }
+        ensures passed { OnOk result (Passed self.now.present row.now self.now.tally) }
+    {
+        let group = row.group();
+        scan::early(row, self.is_full(group), is_own(group))?;
+        scan::late(row, self.tally.size)
+    }
+
+    // The line of a Q row put into the table, and not counted yet.
+    fn put(&mut self, row: &Row)
+        requires { Passed self.old.present row.now self.old.tally }
+        ensures same { (self.new.tally ≡ self.old.tally) × (self.new.present ≡ self.old.present) }
+        ensures counts { (n : ℕ) (above : List Spec.Row) → ArrivalTally n self.old.present above self.old.tally self.old.lines → ArrivalTally n self.new.present (above ++ (row_data row.now ∷ [])) (counted_of row.now self.old.tally) self.new.lines }
+    {
+        if let Row::Q(process) = row {
+            stores::put_process(&mut self.lines, self.tally.lines, process);
+        }
+    }
+
+    // The arrival, or why the text as a whole is refused. Line 0 is the root, as a root of zeros says.
+    fn finish(&self) -> Result<Arrival, Refusal>
+        ensures { (t : Text) (rows : List Spec.Row) → ArrivalHolds t rows self.now → answer_of arrival_view result ≡ whole (numbers_of rows) (lines_of rows) (0 ∷ []) (lines_of rows) }
+    {
+        let root = [0u8; 128];
+        whole::whole(self.tally.turn, &self.lines, self.tally.lines, &root, 1)?;
+        Ok(Arrival {
+            lines: self.lines,
+            count: self.tally.lines,
+        })
     }
 }
 
-// The number by which the text as a whole is refused, or 0. Line 0 is the root, as a root of zeros says.
-fn whole_number(lines: &[u8; 2560], count: usize, turn: bool) -> u8
-    requires { (count ≤ 256) × (length lines.now ≡ 2560) }
-    ensures { result ≡ whole_number turn (lines_view count lines.now) (0 ∷ []) }
-{
-    let roots = [0u8; 128];
-    whole::whole_number(turn, lines, count, &roots, 1)
-}
+impl Reader for ArrivalReader {
+    ghost holds = { ArrivalHolds };
 
-// The same, with room for a line or none.
-fn read_behind(n: u8, d: usize, s: &[u8]) -> ArrivalRead
-    requires { d ≤ 256 }
-    ensures { arrival_answer result ≡ read_arrival n d s.now }
-{
-    let rows = read_rows(n, d, s);
-    let lines = rows.lines;
-    let count = rows.count;
-    let first = rows.number;
-    if first != 0 {
-        let row = rows.row;
-        return ArrivalRead {
-            number: first,
-            row,
-            lines,
-            count,
-        };
-    }
-    let turn = rows.turn;
-    let number = whole_number(&lines, count, turn);
-    ArrivalRead {
-        number,
-        row: 0,
-        lines,
-        count,
+    fn take(&mut self, row: &Row) -> Result<(), Reason> {
+        self.admits(row)?;
+        self.put(row);
+        self.tally.count(row);
+        Ok(())
     }
 }
 
-// From 256 present lines on there is no room.
-fn clamped(d: usize) -> usize
-    ensures { result ≡ min d 256 }
+// An arrival from its bytes, among n sites and behind d lines. From 256 lines on there is no room.
+pub fn read_arrival(n: u8, d: usize, s: &[u8]) -> Result<Arrival, Refusal>
+    ensures { answer_of arrival_view result ≡ read_arrival n d s.now }
 {
-    if d < LINES { d } else { LINES }
-}
-
-// An arrival from its bytes, among n sites and behind d lines.
-pub fn read_arrival(n: u8, d: usize, s: &[u8]) -> ArrivalRead
-    ensures { arrival_answer result ≡ read_arrival n d s.now }
-{
-    read_behind(n, clamped(d), s)
+    let mut reader = ArrivalReader::new(n, d.min(LINES));
+    scan::read(&mut reader, s)?;
+    reader.finish()
 }

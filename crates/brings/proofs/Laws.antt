@@ -1,7 +1,7 @@
 -- Laws of what a bring reads, of the state that it makes, and of its refusals.
 -- Assumes nothing.
 use mathlib.Core.Path.{◌≡◌, refl, sym, ap, ap₂, subst, ◌∙◌}
-use mathlib.Core.Bool.{Bool, true, false, cond}
+use mathlib.Core.Bool.{Bool, true, false}
 use mathlib.Core.List.{List, [], ◌∷◌, ◌++◌, map}
 use Prim.Native.Nat.{ℕ, suc, ◌+◌, ◌<◌, ◌≤◌, ◌^◌}
 use native.Mathlib.Omega.{arith}
@@ -17,7 +17,7 @@ use Rattle.sets.proofs.Lists.{or_false, iff, all_turn, ltb_lt, in_get_or, All-in
 use Rattle.sets.proofs.Bits.{has_or, has_none}
 use Rattle.klaim.specs.Process.{Line, move, ordered, tree}
 use Rattle.klaim.specs.Net.{Net, Estimate}
-use Rattle.klaim.specs.Reader.{refused, gives, read_arrival}
+use Rattle.klaim.specs.Reader.{Answer, refused, gives, read_arrival}
 use Rattle.klaim.specs.Engine.{Result, brought, joined, bring_read, bring}
 use Rattle.klaim.specs.Invariant.{all_below, Invariant}
 use Rattle.klaim.specs.WellFormed.{ArrivalRead as ReadOk}
@@ -30,8 +30,8 @@ use Rattle.tables.proofs.LineTable.{length_view, first_lines}
 use Rattle.sets.proofs.Shared.{mem_single}
 use Rattle.rules.specs.Masks.{Sized}
 use Rattle.door.specs.Parts.{sound}
-use Rattle.arrivals.specs.declared.ArrivalRead.{ArrivalRead}
-use Rattle.arrivals.specs.Read.{arrival_answer}
+use Rattle.arrivals.specs.declared.Arrival.{Arrival}
+use Rattle.arrivals.specs.Read.{arrival_view}
 use Rattle.state.specs.declared.Told.{Told}
 use Rattle.state.specs.declared.State.{State}
 use Rattle.state.specs.View.{ground_view, state_view, answer_view, result_view}
@@ -120,30 +120,19 @@ module _ (st : State) (f : Fits st) where
       subst (λ (r : ℕ). r < length (lines_view st.nlines st.lines)) (get_or-take st.narrivals st.arrivals i 0 h)
       (All-in f.invariant.arrivals_ok (in_get_or 0 (take st.narrivals st.arrivals) i (omega (arith, length-take-le st.narrivals st.arrivals (omega (arith, f.arrivals_long, arrivals_few f)))))).present
 
-  module _ (rows : List ℕ) (a : ArrivalRead) (e : arrival_answer a ≡ read_arrival st.net.size st.nlines rows) where
-    bring_read_lem : bring (state_view st) rows ≡ bring_read (state_view st) (arrival_answer a)
+  module _ (rows : List ℕ) where
+    bring_by : {a : Answer (List Line)} → a ≡ read_arrival st.net.size st.nlines rows → bring (state_view st) rows ≡ bring_read (state_view st) a
     unfolding state_view ground_view bring
-    bring_read_lem = rw (length_view st.nlines st.lines, e)
-
-    refused_read : (a.number ≡ 0 → ⊥) → arrival_answer a ≡ refused a.number a.row
-    unfolding arrival_answer
-    refused_read h = ap (λ (b : Bool). cond b (gives (lines_view a.count a.lines)) (refused a.number a.row)) (ne_eqb a.number 0 h)
+    bring_by e = rw (length_view st.nlines st.lines, e)
 
     -- a refusal leaves the state as it is
-    pub refused_bring : (a.number ≡ 0 → ⊥) → (told : Told) → answer_view told ≡ refused a.number a.row → Brought st rows (answering st told)
+    pub refused_bring : (number row : ℕ) → refused number row ≡ read_arrival st.net.size st.nlines rows → (told : Told) → answer_view told ≡ refused number row → Brought st rows (answering st told)
     unfolding result_view bring_read state_view
-    refused_bring h told w = record {
-      result = rw w (sym (bring_read_lem ∙ ap (bring_read (state_view st)) (refused_read h)));
-      fits = answering_fits st f told;
-    }
+    refused_bring number row e told w = record { result = rw w (sym (bring_by e)); fits = answering_fits st f told }
 
-    module _ (z : a.number ≡ 0) where
-      read_lines : arrival_answer a ≡ gives (lines_view a.count a.lines)
-      unfolding arrival_answer
-      read_lines = ap (λ (b : Bool). cond b (gives (lines_view a.count a.lines)) (refused a.number a.row)) (eq-eqb a.number 0 z)
-
+    module _ (a : Arrival) (e : gives (lines_view a.count a.lines) ≡ read_arrival st.net.size st.nlines rows) where
       read_ok : ReadOk st.net.size st.nlines (lines_view a.count a.lines)
-      read_ok = arrival_read st.net.size st.nlines rows (lines_view a.count a.lines) (lines_few f) (sym e ∙ read_lines)
+      read_ok = arrival_read st.net.size st.nlines rows (lines_view a.count a.lines) (lines_few f) (sym e)
 
       pub some_line : 0 < a.count
       some_line = omega (arith, read_ok.some_line, length_view a.count a.lines)
@@ -156,7 +145,7 @@ module _ (st : State) (f : Fits st) where
 
       joined_bring : bring (state_view st) rows ≡ record { answer = gives (brought st.nlines); state = joined (state_view st) (lines_view a.count a.lines) }
       unfolding bring_read state_view
-      joined_bring = bring_read_lem ∙ ap (bring_read (state_view st)) read_lines ∙ rw (length_view st.nlines st.lines)
+      joined_bring = bring_by e ∙ rw (length_view st.nlines st.lines)
 
       -- the lines with those of the arrival
       module _ (new : List ℕ) (j : lines_view (st.nlines + a.count) new ≡ lines_view st.nlines st.lines ++ map (move st.nlines) (lines_view a.count a.lines)) where
@@ -241,3 +230,18 @@ module _ (st : State) (f : Fits st) where
                 invariant = subst Invariant (ap (λ (r : Result). r.state) joined_bring ∙ sym behind_view) (bring_keeps (state_view st) rows f.invariant);
               };
             }
+
+-- room for the lines of an arrival that was read, and for its root
+module _ (st : State) (f : Fits st) (rows : List ℕ) (a : Arrival) (e : gives (arrival_view a) ≡ read_arrival st.net.size st.nlines rows) where
+  pub lines_said : gives (lines_view a.count a.lines) ≡ read_arrival st.net.size st.nlines rows
+  unfolding arrival_view
+  lines_said = e
+
+  pub room_said : st.nlines + a.count ≤ 256
+  room_said = few st f rows a lines_said
+
+  pub some_said : 0 < a.count
+  some_said = some_line st f rows a lines_said
+
+  pub place_said : st.narrivals < 256
+  place_said = omega (arith, room_said, some_said, f.arrivals_few)

@@ -60,16 +60,16 @@ pub fn bring(state: State, rows: &[u8]) -> State
 {
     let mut next = state;
     let n = state.nlines;
-    let read = arrivals::read_arrival(state.net.size, n, rows);
-    let number = read.number;
-    if number != 0 {
-        next.run.told.number = number;
-        next.run.told.row = read.row;
-        return next;
-    }
-    let m = read.count;
-    let arrival = read.lines;
-    renumber::append_moved(&mut next.lines, n, &arrival, m);
+    let arrival = match arrivals::read_arrival(state.net.size, n, rows) {
+        Ok(arrival) => arrival,
+        Err(refusal) => {
+            next.run.told.number = refusal.why.number();
+            next.run.told.row = refusal.row;
+            return next;
+        }
+    };
+    let m = arrival.count;
+    renumber::append_moved(&mut next.lines, n, &arrival.lines, m);
     let count = n + m;
     let root = n as u8;
     let sites = sound_sites(

@@ -1,18 +1,15 @@
 -- What a net and an estimate that were read meet, and the bytes of a report in a buffer.
 -- Assumes nothing.
-use mathlib.Core.Path.{◌≡◌, refl, sym, ap, ◌∙◌}
-use mathlib.Core.Logic.{◌⊎◌, inl, inr}
-use mathlib.Core.Bool.{Bool, true, false, cond}
-use mathlib.Core.List.{List, ◌++◌}
-use Prim.Native.Nat.{ℕ, ◌+◌, ◌-◌, ◌<◌, ◌≤◌}
+use mathlib.Core.Path.{◌≡◌, refl, sym, ap}
+use mathlib.Core.Bool.{true}
+use mathlib.Core.List.{List}
+use Prim.Native.Nat.{ℕ, ◌<◌, ◌≤◌}
 use native.Mathlib.Omega.{arith}
-use lib.Dec.{leb}
-use lib.ListN.{length, get_or, drop, length-drop, length-append, get_or-append}
-use lib.Seq.{ext_get_or, get_or-drop, get_or-append-add}
-use borrow.Author.Tests.{eq-eqb, ne_eqb, le-ltb}
+use lib.ListN.{length}
+use borrow.Author.Tests.{le-ltb}
 use Rattle.sets.specs.Lists.{all}
-use Rattle.sets.proofs.Lists.{all_i, all_at, ltb_lt, lt-ltb, leb_le, nleb_lt}
-use Rattle.sets.proofs.Tables.{length_table, Filled}
+use Rattle.sets.proofs.Lists.{all_i, all_at, ltb_lt, lt-ltb}
+use Rattle.sets.proofs.Tables.{length_table}
 use Rattle.klaim.specs.Invariant.{all_below}
 use Rattle.klaim.specs.Analysis.{Verdict, verdict}
 use Rattle.klaim.specs.Check.{written, check_read, check}
@@ -23,28 +20,24 @@ use Rattle.tables.proofs.LineTable.{length_view}
 use Rattle.report.specs.Given.{Rooted, Given}
 use Rattle.report.proofs.Ready.{rooted, given}
 use Rattle.verdict.specs.Verdict.{Tabled, Judgeable}
-use Rattle.worlds.specs.declared.WorldRead.{WorldRead}
-use Rattle.worlds.specs.World.{world_view, world_answer}
+use Rattle.worlds.specs.declared.World as Code
+use Rattle.worlds.specs.World.{world_view}
 use Rattle.checker.specs.Check.{WellFormed}
 
 -- both were read
-pub sound : (net estimate : List ℕ) (w : WorldRead) → world_answer w ≡ read_both net estimate → w.number ≡ 0 → WellFormed w
-unfolding world_answer
-sound net estimate w e z =
-    let g : read_both net estimate ≡ gives (world_view w) = sym e ∙ ap (λ (b : Bool). cond b (gives (world_view w)) (refused w.number w.row)) (eq-eqb w.number 0 z) in
-    let k = both_read net estimate (world_view w) g in
-    record { net = k.0; estimate = k.1 }
+pub sound : (net estimate : List ℕ) (w : Code.World) → gives (world_view w) ≡ read_both net estimate → WellFormed w
+sound net estimate w e = let k = both_read net estimate (world_view w) (sym e) in record { net = k.0; estimate = k.1 }
 
 -- sites below n are below 32
 fit_low : (n : ℕ) (ts : List (List ℕ)) → n ≤ 32 → all (all_below n) ts ≡ true → all (all_below 32) ts ≡ true
 unfolding all_below
 fit_low n ts h f = all_i _ ts (λ t i. all_i _ t (λ s j. lt-ltb s 32 (omega (arith, ltb_lt s n (all_at _ j (all_at _ i f))))))
 
-pub tabled : (w : WorldRead) → Tabled (world_view w).net (world_view w).estimate w.net.boxes w.net.tuples w.net.ntuples w.net.roots w.net.nroots w.net.lines w.net.nlines w.estimate.binds w.estimate.stand w.estimate.nstand w.estimate.hold
+pub tabled : (w : Code.World) → Tabled (world_view w).net (world_view w).estimate w.net.boxes w.net.tuples w.net.ntuples w.net.roots w.net.nroots w.net.lines w.net.nlines w.estimate.binds w.estimate.stand w.estimate.nstand w.estimate.hold
 unfolding world_view net_view estimate_view
 tabled w = record { boxes_is = refl; tuples_is = refl; roots_is = refl; lines_is = refl; binds_is = refl; stand_is = refl; hold_is = refl }
 
-module _ (w : WorldRead) where
+module _ (w : Code.World) where
   pub given_world : Given (world_view w).net (world_view w).estimate w.net.homes w.net.boxes w.net.nlines w.net.lines w.estimate.binds
   unfolding world_view
   given_world = given w.net w.estimate
@@ -61,7 +54,7 @@ module _ (w : WorldRead) where
   unfolding world_view
   rooted_world S = rooted w.net S.net
 
-module _ (w : WorldRead) (S : WellFormed w) where
+module _ (w : Code.World) (S : WellFormed w) where
   pub judgeable : length w.net.tuples ≡ 1536 → length w.net.lines ≡ 2560 → length w.estimate.stand ≡ 1536 → Judgeable w.net.tuples w.net.ntuples w.net.roots w.net.nroots w.net.lines w.net.nlines w.estimate.stand w.estimate.nstand
   unfolding world_view net_view estimate_view rows_view
   judgeable t l s = record {
@@ -79,35 +72,6 @@ module _ (w : WorldRead) (S : WellFormed w) where
     };
   }
 
-leb_cases : (k n : ℕ) → (k < n) ⊎ (n ≤ k)
-leb_cases k n = go (leb n k) refl
-  where
-    go : (b : Bool) → leb n k ≡ b → (k < n) ⊎ (n ≤ k)
-    go true e = inr (leb_le n k e)
-    go false e = inl (nleb_lt n k e)
-
--- the first i bytes of a report stand in a buffer
-abbrev pub Copied : List ℕ → List ℕ → List ℕ → ℕ → Type 0
-Copied old bytes = Filled 0 (λ k. get_or bytes k 0) old
-
-pub copied_all : (bytes : List ℕ) {old new : List ℕ} {i : ℕ} → Copied old bytes new i → 1024 ≤ i → i ≤ 1024 → length bytes ≡ 1024 → 1024 ≤ length old → new ≡ bytes ++ drop 1024 old
-copied_all bytes {old} {new} {i} C l m b h =
-    ext_get_or 0 new (bytes ++ drop 1024 old) (C.long ∙ sym (length-append bytes (drop 1024 old) ∙ size)) (λ k g. at k (leb_cases k 1024))
-  where
-    size : length bytes + length (drop 1024 old) ≡ length old
-    size = rw length-drop (omega arith)
-
-    at : (k : ℕ) → (k < 1024) ⊎ (1024 ≤ k) → get_or new k 0 ≡ get_or (bytes ++ drop 1024 old) k 0
-    at k (inl g) = C.done k (omega arith) ∙ sym (get_or-append bytes (drop 1024 old) 0 k (omega arith))
-    at k (inr g) =
-        let e : k ≡ length bytes + (k - 1024) = omega arith in
-        let q : 1024 + (k - 1024) ≡ k = omega arith in
-        C.rest k (omega arith)
-        ∙ ap (λ (j : ℕ). get_or old j 0) (sym q)
-        ∙ sym (get_or-drop 1024 old (k - 1024) 0)
-        ∙ sym (get_or-append-add bytes (drop 1024 old) (k - 1024) 0)
-        ∙ ap (λ (j : ℕ). get_or (bytes ++ drop 1024 old) j 0) (sym e)
-
 -- the answer and the buffer by the verdict
 module _ (w : World) (buffer : List ℕ) (v : Verdict) (e : v ≡ verdict w.net w.estimate) where
   pub answer_by : gives v ≡ (check_read buffer (gives w)).answer
@@ -124,10 +88,10 @@ module _ (net estimate buffer : List ℕ) where
   unfolding check
   too_short h = rw (lt-ltb (length buffer) 1024 h) (refl, refl)
 
-  pub not_read : (w : WorldRead) → 1024 ≤ length buffer → world_answer w ≡ read_both net estimate → (w.number ≡ 0 → ⊥) → (refused w.number w.row ≡ (check net estimate buffer).answer) × (buffer ≡ (check net estimate buffer).buffer)
-  unfolding check check_read world_answer
-  not_read w h e n = rw (le-ltb (length buffer) 1024 h, ← e, ne_eqb w.number 0 n) (refl, refl)
+  pub not_read : {number row : ℕ} → 1024 ≤ length buffer → refused number row ≡ read_both net estimate → (refused number row ≡ (check net estimate buffer).answer) × (buffer ≡ (check net estimate buffer).buffer)
+  unfolding check check_read
+  not_read h e = rw (le-ltb (length buffer) 1024 h, ← e) (refl, refl)
 
-  pub was_read : (w : WorldRead) → 1024 ≤ length buffer → world_answer w ≡ read_both net estimate → w.number ≡ 0 → check_read buffer (gives (world_view w)) ≡ check net estimate buffer
-  unfolding check world_answer
-  was_read w h e z = rw (le-ltb (length buffer) 1024 h, ← e, eq-eqb w.number 0 z)
+  pub was_read : {w : World} → 1024 ≤ length buffer → gives w ≡ read_both net estimate → check_read buffer (gives w) ≡ check net estimate buffer
+  unfolding check
+  was_read h e = rw (le-ltb (length buffer) 1024 h, ← e)

@@ -1,30 +1,38 @@
 -- What a reader of an estimate keeps of the rows above.
 -- Assumes nothing.
-use Rattle.std.specs.Prelude.{◌≡◌, Bool, true, false, List, map, ℕ, ◌<◌, ◌^◌, eqb, leb, length}
+use Rattle.std.specs.Prelude.{◌≡◌, Bool, true, false, List, map, ℕ, ◌^◌, eqb, leb}
 use Rattle.sets.specs.Lists.{All, ◌&◌}
 use Rattle.klaim.specs.Limits.{tuple_limit}
 use Rattle.klaim.specs.Rows.{Row, group_b, group_a, group_e}
-use Rattle.klaim.specs.Reader.{an_estimate, in_limits, of_group, own, in_order, gather, pair_place, nth}
+use Rattle.klaim.specs.Reader.{Text, an_estimate, in_limits, of_group, own, in_order, gather, pair_place, nth}
 use Rattle.tables.specs.View.{rows_view}
-use Rattle.forms.specs.declared.RowData.{RowData}
+use Rattle.forms.specs.declared.rows.Row as Form
 use Rattle.forms.specs.Forms.{row_data}
 use Rattle.scan.specs.declared.Tally.{Tally}
-use Rattle.repeats.specs.Kept.{Kept}
+use Rattle.scan.specs.Tallies.{last_number}
+use Rattle.repeats.specs.Kept.{Kept, KeysAre}
+use Rattle.estimates.specs.declared.reading.EstimateReader.{EstimateReader}
 
--- the tables hold the rows above: nstand of them are tuples
-pub record EstimateTables (above : List Row) (binds stand : List ℕ) (nstand : ℕ) (hold : List ℕ) : Type 0 where
-  pub binds_is : binds ≡ gather 32 (λ r. nth r.vars 0) (λ r. 2 ^ nth r.sites 0) (of_group group_b above)
-  pub stand_is : rows_view nstand stand ≡ map (λ r. r.sites) (of_group group_a above)
-  pub hold_is : hold ≡ gather 1024 pair_place (λ r. r.rights) (of_group group_e above)
-  pub stand_long : length stand ≡ 1536
+-- the tables hold the rows above, as many tuples as the tally counts
+pub record EstimateTables (above : List Row) (r : EstimateReader) (t : Tally) : Type 0 where
+  pub binds_is : r.binds ≡ gather 32 (λ r. nth r.vars 0) (λ r. 2 ^ nth r.sites 0) (of_group group_b above)
+  pub stand_is : rows_view t.tuples r.stand ≡ map (λ r. r.sites) (of_group group_a above)
+  pub hold_is : r.hold ≡ gather 1024 pair_place (λ r. r.rights) (of_group group_e above)
+  pub keys_are : KeysAre group_a above r.keys t.tuples
 
 -- the tally of the rows above, n given
 pub record EstimateTally (n : ℕ) (above : List Row) (t : Tally) : Type 0 where
   pub kept : All Kept above
   pub owned : All (λ r. own (an_estimate n) r.group ≡ true) above
-  pub order : (r : Row) → in_order above r ≡ leb t.last r.group
-  pub rows : length above ≡ t.rows
+  pub order : (r : Row) → in_order above r ≡ leb (last_number t.last) r.group
   pub size_is : t.size ≡ n
+
+-- the rows above, of an estimate for the n that was given, are held
+pub record EstimateHolds (t : Text) (above : List Row) (r : EstimateReader) : Type 0 where
+  pub n : ℕ
+  pub text : t ≡ an_estimate n
+  pub tables : EstimateTables above r r.tally
+  pub counts : EstimateTally n above r.tally
 
 -- 2: "row count over its limit"
 unfoldable pub full_of : ℕ → Tally → Bool
@@ -32,11 +40,10 @@ full_of g t = eqb g group_a & leb tuple_limit t.tuples
 
 -- 3, but for repeats: no foreign row, groups in order
 unfoldable pub placed_of : ℕ → Tally → Bool
-placed_of g t = leb group_b g & leb t.last g
+placed_of g t = leb group_b g & leb (last_number t.last) g
 
--- a row that has a form, is within limits and stands in its place
-pub record Passed (row : RowData) (t : Tally) : Type 0 where
-  pub some : 0 < row.group
+-- a row that 2 and the order let through
+pub record Passed (row : Form.Row) (t : Tally) : Type 0 where
   pub low : in_limits (row_data row) ≡ true
-  pub room : full_of row.group t ≡ false
-  pub placed : placed_of row.group t ≡ true
+  pub room : full_of (row_data row).group t ≡ false
+  pub placed : placed_of (row_data row).group t ≡ true

@@ -1,178 +1,141 @@
 //! An estimate, read from its bytes.
 #![tactic(auto)]
 
-ghost use Rattle.std.specs.Prelude.{◌≡◌, true, List, [], ◌∷◌, ◌++◌, ℕ, ◌+◌, ◌<◌, ◌≤◌, length};
-ghost use Rattle.klaim.specs.Rows.{Row, group_a, group_e};
-ghost use Rattle.klaim.specs.Reader.{an_estimate, judge, repeated, read_estimate};
-ghost use Rattle.forms.specs.Forms.{row_view, row_data, row_good};
-ghost use Rattle.scan.specs.Numbers.{judged_by};
+ghost use Rattle.std.specs.Prelude.{◌≡◌, true, List, [], ◌∷◌, ◌++◌, ◌<◌, eqb, leb, OnOk};
+ghost use Rattle.klaim.specs.Rows as Spec;
+ghost use Rattle.klaim.specs.Rows.{group_b, group_a};
+ghost use Rattle.klaim.specs.Reader.{Text, an_estimate, judge, in_limits, repeated, estimate_of, read_estimate};
+ghost use Rattle.klaim.specs.Refusals.{answer_of};
+ghost use Rattle.std.proofs.Math.Option.{some};
+ghost use Rattle.tables.specs.View.{estimate_view};
+ghost use Rattle.forms.specs.Forms.{group_number, row_data};
+ghost use Rattle.scan.specs.Reasons.{judged_by};
 ghost use Rattle.scan.specs.Tallies.{counted_of};
-ghost use Rattle.repeats.specs.Kept.{KeysAre};
-ghost use Rattle.estimates.specs.Rows.{EstimateTables, EstimateTally, Passed, full_of, placed_of};
-ghost use Rattle.estimates.specs.Read.{estimate_answer};
+ghost use Rattle.estimates.specs.Rows.{EstimateTables, EstimateHolds, Passed, full_of, placed_of};
 
-use forms::RowData;
-use scan::Tally;
+mod reading;
+
+use forms::{Group, Row};
+use klaim::{Reason, Refusal};
+use reading::EstimateReader;
+use scan::{Reader, Tally};
 use tables::{Estimate, TUPLES};
-use text::{GROUP_A, GROUP_B, GROUP_E};
 
-// An estimate, or the number of a refusal and its row; the number is 0 if there is none.
-#[derive(Clone, Copy)]
-pub struct EstimateRead {
-    pub number: u8,
-    pub row: usize,
-    pub estimate: Estimate,
+// Whether a group is that of the tuples, and whether it is one of an estimate's.
+fn is_tuples(group: Group) -> bool
+    ensures { result ≡ eqb (group_number group) group_a }
+{
+    group == Group::A
 }
 
-// Whether no row of this group may follow.
-fn is_full(group: u8, tally: Tally) -> bool
-    ensures { result ≡ full_of group tally }
+fn is_own(group: Group) -> bool
+    ensures { result ≡ leb group_b (group_number group) }
 {
-    let tuples = tally.tuples;
-    if group == GROUP_A {
-        return TUPLES <= tuples;
-    }
-    false
+    Group::B <= group
 }
 
-// Whether a row of this group may follow the rows above.
-fn is_placed(group: u8, tally: Tally) -> bool
-    ensures { result ≡ placed_of group tally }
-{
-    let last = tally.last;
-    if group < GROUP_B {
-        return false;
-    }
-    last <= group
-}
-
-// Whether the row, a B or an A row, stands above.
-fn is_seen(row: RowData, tally: Tally, binds: &[u32; 32], keys: &[u32; 256]) -> bool
-    requires row_value { row_good row ≡ true }
-    requires passed { Passed row tally }
-    requires fact { row.group ≡ group_e → ⊥ }
-    requires tuples_bound { tally.tuples ≤ 256 }
-    requires binds_len { (length binds.now ≡ 32) × (length keys.now ≡ 256) }
-    ensures { (n : ℕ) (above : List Row) (stand hold : List ℕ) → EstimateTally n above tally → EstimateTables above binds.now stand tally.tuples hold → KeysAre group_a above keys.now tally.tuples → result ≡ repeated above (row_data row) }
-{
-    let group = row.group;
-    if group == GROUP_B {
-        return repeats::bound_seen(binds, row);
-    }
-    repeats::tuple_seen(keys, tally.tuples, row)
-}
-
-// The number by which an E row is refused, or 0.
-fn pair_number(row: RowData, tally: Tally, hold: &[u8; 1024]) -> u8
-    requires row_value { row_good row ≡ true }
-    requires group_value { row.group ≡ group_e }
-    requires hold_len { length hold.now ≡ 1024 }
-    ensures by_index { (n : ℕ) (above : List Row) (binds stand : List ℕ) → EstimateTally n above tally → EstimateTables above binds stand tally.tuples hold.now → judge (an_estimate n) above (row_view row) ≡ judged_by result (row_data row) }
-    ensures passed { result ≡ 0 → Passed row tally }
-{
-    let first = scan::early_pair(row, false, is_placed(GROUP_E, tally));
-    if first != 0 {
-        return first;
-    }
-    if repeats::pair_seen(hold, row) {
-        return 3;
-    }
-    scan::sited_pair(row, tally.size)
-}
-
-// The number by which the row is refused, or 0.
-fn row_number(
-    row: RowData,
-    tally: Tally,
-    binds: &[u32; 32],
-    keys: &[u32; 256],
-    hold: &[u8; 1024],
-) -> u8
-    requires row_value { row_good row ≡ true }
-    requires tuples_bound { tally.tuples ≤ 256 }
-    requires binds_len { (length binds.now ≡ 32) × (length keys.now ≡ 256) × (length hold.now ≡ 1024) }
-    ensures by_index { (n : ℕ) (above : List Row) (stand : List ℕ) → EstimateTally n above tally → EstimateTables above binds.now stand tally.tuples hold.now → KeysAre group_a above keys.now tally.tuples → judge (an_estimate n) above (row_view row) ≡ judged_by result (row_data row) }
-    ensures passed { result ≡ 0 → Passed row tally }
-{
-    let group = row.group;
-    if group == GROUP_E {
-        return pair_number(row, tally, hold);
-    }
-    let first = scan::early(row, is_full(group, tally), is_placed(group, tally));
-    if first != 0 {
-        return first;
-    }
-    if is_seen(row, tally, binds, keys) {
-        return 3;
-    }
-    scan::sited(row, tally.size)
-}
-
-// The row put into its table.
-fn store(
-    row: RowData,
-    tally: Tally,
-    binds: &mut [u32; 32],
-    stand: &mut [u8; 1536],
-    hold: &mut [u8; 1024],
-)
-    requires row_value { row_good row ≡ true }
-    requires passed { Passed row tally }
-    requires binds_len { (length binds.old ≡ 32) × (length stand.old ≡ 1536) × (length hold.old ≡ 1024) }
-    ensures binds_len_2 { (length binds.new ≡ 32) × (length stand.new ≡ 1536) × (length hold.new ≡ 1024) }
-    ensures estimate_tables { (above : List Row) → EstimateTables above binds.old stand.old tally.tuples hold.old → EstimateTables (above ++ (row_data row ∷ [])) binds.new stand.new (counted_of row tally).tuples hold.new }
-{
-    let group = row.group;
-    match group {
-        GROUP_B => {
-            stores::put_bound(binds, row);
+impl EstimateReader {
+    // Nothing is read; n is that of the net.
+    fn new(n: u8) -> EstimateReader
+        ensures { EstimateHolds (an_estimate n) [] result }
+    {
+        EstimateReader {
+            binds: [0; 32],
+            stand: [0; 1536],
+            keys: [0; 256],
+            hold: [0; 1024],
+            tally: Tally::start(n),
         }
-        GROUP_A => {
-            stores::put_row(stand, tally.tuples, row);
+    }
+
+    // Whether no row of this group may follow.
+    fn is_full(&self, group: Group) -> bool
+        ensures { result ≡ full_of (group_number group) self.now.tally }
+    {
+        // `&` has no branch, so that the proof has one path.
+        is_tuples(group) & (TUPLES <= self.tally.tuples)
+    }
+
+    // Whether a row of this group may follow the rows above.
+    fn is_placed(&self, group: Group) -> bool
+        ensures { result ≡ placed_of (group_number group) self.now.tally }
+    {
+        is_own(group) & self.tally.in_order(group)
+    }
+
+    // Whether the row stands above.
+    fn is_seen(&self, row: &Row) -> bool
+        requires low { in_limits (row_data row.now) ≡ true }
+        requires placed { placed_of (row_data row.now).group self.now.tally ≡ true }
+        ensures { (t : Text) (above : List Spec.Row) → EstimateHolds t above self.now → result ≡ repeated above (row_data row.now) }
+    {
+        match row {
+            Row::B(bound) => repeats::bound_seen(&self.binds, bound),
+            Row::A(tuple) => repeats::tuple_seen(&self.keys, self.tally.tuples, tuple),
+            Row::E(pair) => repeats::pair_seen(&self.hold, pair),
+            _ => false,
         }
-        _ => {
-            stores::put_pair(hold, row);
+    }
+
+    // Whether the row is let through.
+    fn admits(&self, row: &Row) -> Result<(), Reason>
+        ensures judged { (t : Text) (above : List Spec.Row) → EstimateHolds t above self.now → judge t above (some (row_data row.now)) ≡ judged_by result (row_data row.now) }
+        ensures passed { OnOk result (Passed row.now self.now.tally) }
+    {
+        let group = row.group();
+        scan::early(row, self.is_full(group), self.is_placed(group))?;
+        if self.is_seen(row) {
+            return Err(Reason::Place);
         }
+        scan::late(row, self.tally.size)
+    }
+
+    // The row put into its table, and not counted yet.
+    fn put(&mut self, row: &Row)
+        requires { Passed row.now self.old.tally }
+        ensures tally_same { self.new.tally ≡ self.old.tally }
+        ensures tables { (above : List Spec.Row) → EstimateTables above self.old self.old.tally → EstimateTables (above ++ (row_data row.now ∷ [])) self.new (counted_of row.now self.old.tally) }
+    {
+        match row {
+            Row::B(bound) => stores::put_bound(&mut self.binds, bound),
+            Row::A(tuple) => {
+                stores::put_row(&mut self.stand, self.tally.tuples, tuple);
+                repeats::keep_key(&mut self.keys, self.tally.tuples, tuple);
+            }
+            Row::E(pair) => stores::put_pair(&mut self.hold, pair),
+            _ => {}
+        }
+    }
+
+    // The estimate that is read.
+    fn finish(&self) -> Estimate
+        ensures { (t : Text) (rows : List Spec.Row) → EstimateHolds t rows self.now → estimate_view result ≡ estimate_of rows }
+    {
+        Estimate {
+            binds: self.binds,
+            stand: self.stand,
+            nstand: self.tally.tuples,
+            hold: self.hold,
+        }
+    }
+}
+
+impl Reader for EstimateReader {
+    ghost holds = { EstimateHolds };
+
+    fn take(&mut self, row: &Row) -> Result<(), Reason> {
+        self.admits(row)?;
+        self.put(row);
+        self.tally.count(row);
+        Ok(())
     }
 }
 
 // An estimate from its bytes, given the n of the net.
-pub fn read_estimate(n: u8, s: &[u8]) -> EstimateRead
-    ensures { estimate_answer result ≡ read_estimate n s.now }
+pub fn read_estimate(n: u8, s: &[u8]) -> Result<Estimate, Refusal>
+    ensures { answer_of estimate_view result ≡ read_estimate n s.now }
 {
-    let mut binds = [0u32; 32];
-    let mut stand = [0u8; 1536];
-    let mut keys = [0u32; 256];
-    let mut hold = [0u8; 1024];
-    let mut tally = scan::start(n);
-    let mut at = 0;
-    while at < s.len() {
-        let next = scan::row_at(s, at);
-        let row = next.row;
-        let end = next.end;
-        let number = row_number(row, tally, &binds, &keys, &hold);
-        if number == 0 {
-            store(row, tally, &mut binds, &mut stand, &mut hold);
-            repeats::keep_key(&mut keys, tally.tuples, GROUP_A, row);
-            tally = scan::counted(row, tally);
-            at = end + 1;
-        } else {
-            tally = scan::turned_away(tally, number);
-            at = s.len();
-        }
-    }
-    let nstand = tally.tuples;
-    let estimate = Estimate {
-        binds,
-        stand,
-        nstand,
-        hold,
-    };
-    let number = tally.number;
-    let row = tally.rows;
-    EstimateRead {
-        number,
-        row,
-        estimate,
-    }
+    let mut reader = EstimateReader::new(n);
+    scan::read(&mut reader, s)?;
+    Ok(reader.finish())
 }

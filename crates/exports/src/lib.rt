@@ -7,9 +7,10 @@ ghost use Rattle.std.specs.Prelude.{◌≡◌, ◌<◌, ◌≤◌};
 ghost use Rattle.state.specs.Fits.{Fits};
 ghost use Rattle.state.specs.Lent.{gone_on};
 
-use checker::Answer;
+use klaim::Refusal;
 use ready::{DoorAnswer, ReadyAnswer};
 use state::{Run, State};
+use verdict::Verdict;
 
 // What is added to the number of a broken T row, of a broken line, of a refusal; accepted is 0.
 const BROKEN_T: u32 = 65536;
@@ -28,13 +29,13 @@ const PASSES: u32 = 1;
 // Bytes of `choices` for one call: three numbers.
 const CHOICE: usize = 3;
 
-// The verdict of check as a number.
-fn coded(answer: Answer) -> u32 {
+// What check answers as a number.
+fn coded(answer: Result<Verdict, Refusal>) -> u32 {
     match answer {
-        Answer::Accepted => 0,
-        Answer::BrokenTuple(i) => BROKEN_T + i as u32,
-        Answer::BrokenLine(q) => BROKEN_Q + q as u32,
-        Answer::Refused(number, row) => REFUSED + number as u32,
+        Ok(Verdict::Accepted) => 0,
+        Ok(Verdict::BrokenTuple(i)) => BROKEN_T + u32::from(i),
+        Ok(Verdict::BrokenLine(q)) => BROKEN_Q + u32::from(q),
+        Err(refusal) => REFUSED + u32::from(refusal.why.number()),
     }
 }
 
@@ -59,8 +60,10 @@ pub extern "C" fn salmurkki_list(input: &[u8], output: &mut [u8; listing::LISTIN
 // Reads a net and its estimate: the number of the refusal, or 0.
 #[unsafe(no_mangle)]
 pub extern "C" fn salmurkki_read(net: &[u8], estimate: &[u8]) -> u32 {
-    let w = worlds::read_both(net, estimate);
-    w.number as u32
+    match worlds::read_both(net, estimate) {
+        Ok(_) => 0,
+        Err(refusal) => u32::from(refusal.why.number()),
+    }
 }
 
 // Byte i of the choices, 0 beyond them.

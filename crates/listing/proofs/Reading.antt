@@ -1,18 +1,18 @@
 -- The listing of a net and an estimate that were read.
 -- Assumes nothing.
 use mathlib.Core.Path.{◌≡◌, refl, sym, ap, ap₂, subst, ◌∙◌}
-use mathlib.Core.Bool.{Bool, true, false, cond}
+use mathlib.Core.Bool.{Bool, true, false}
 use mathlib.Core.List.{List, [], ◌∷◌}
 use Prim.Native.Nat.{ℕ, ◌+◌, ◌-◌, ◌<◌, ◌≤◌}
 use native.Mathlib.Omega.{arith}
 use lib.ListN.{length, take, drop, length-take, length-drop}
 use lib.Seq.{take_all}
-use borrow.Author.Tests.{eq-eqb, ne_eqb, lt-ltb, le-ltb}
+use borrow.Author.Tests.{lt-ltb, le-ltb}
 use Rattle.sets.specs.Lists.{table}
 use Rattle.klaim.specs.Limits.{input_limit}
 use Rattle.klaim.specs.Analysis.{Verdict, accepted, verdict}
 use Rattle.klaim.specs.Report.{report}
-use Rattle.klaim.specs.Reader.{refused, gives, read_both}
+use Rattle.klaim.specs.Reader.{Answer, refused, gives, read_both}
 use Rattle.klaim.specs.Listing.{numeral, row, home_count, used_count, list_verdict, list_read, before, net_part, estimate_part, listing}
 use Rattle.tables.specs.View.{net_view, estimate_view}
 use Rattle.writer.specs.Wrote.{Wrote}
@@ -20,10 +20,15 @@ use Rattle.rows.proofs.Rows.{length_row}
 use Rattle.klaim.proofs.Numeral.{numeral_short}
 use Rattle.klaim.specs.Rows.{text}
 use Rattle.usable.specs.Rights.{Rights}
-use Rattle.worlds.specs.declared.WorldRead.{WorldRead}
-use Rattle.worlds.specs.World.{world_view, world_answer}
+use Rattle.worlds.specs.declared.World.{World}
+use Rattle.worlds.specs.World.{world_view}
 use Rattle.worlds.proofs.Rows.{both_row}
 use Rattle.checker.specs.Check.{WellFormed}
+use Rattle.checker.proofs.Laws.{sound}
+use Rattle.std.specs.Prelude.{Result, Ok, Err, MatchResult}
+use Rattle.klaim.specs.Refusals.{number_of, answer_of}
+use Rattle.klaim.specs.declared.Refusal.{Refusal}
+use Rattle.klaim.specs.Reader as Spec
 use Rattle.sets.proofs.Tables.{length_table}
 use Rattle.listing.specs.Lines.{accepted_list, Counts}
 use Rattle.listing.proofs.Listing.{accepted_list_lem, counts_tables}
@@ -37,44 +42,39 @@ pub broken_fits : (k n : ℕ) → n < 100000 → 0 + length (row "broken" ((k �
 unfolding text
 broken_fits k n h = omega (arith, length_row "broken" ((k ∷ []) ∷ numeral n ∷ []), numeral_short 4 n h)
 
-pub rights_world : (w : WorldRead) → Rights (world_view w) w.net.roots w.net.nroots w.net.lines w.net.nlines w.net.boxes w.estimate.binds w.estimate.hold
+pub rights_world : (w : World) → Rights (world_view w) w.net.roots w.net.nroots w.net.lines w.net.nlines w.net.boxes w.estimate.binds w.estimate.hold
 unfolding world_view net_view estimate_view
 rights_world w = record { roots_is = refl; lines_is = refl; boxes_is = refl; binds_is = refl; hold_is = refl }
 
-pub homes_world : (w : WorldRead) → (world_view w).net.homes ≡ w.net.homes
+pub homes_world : (w : World) → (world_view w).net.homes ≡ w.net.homes
 unfolding world_view net_view
 homes_world w = refl
 
-pub size_world : (w : WorldRead) → (world_view w).net.size ≡ w.net.size
+pub size_world : (w : World) → (world_view w).net.size ≡ w.net.size
 unfolding world_view net_view
 size_world w = refl
 
 -- the listing of an accepted net, from its tables
-pub accepted_world : (w : WorldRead) (r held used : List ℕ) → (world_view w).net.size ≤ 32 → r ≡ report (world_view w).net (world_view w).estimate → held ≡ table 32 (home_count (world_view w).net) → used ≡ table 32 (used_count (world_view w)) → accepted_list r held used w.net.size ≡ list_verdict (world_view w) accepted
+pub accepted_world : (w : World) (r held used : List ℕ) → (world_view w).net.size ≤ 32 → r ≡ report (world_view w).net (world_view w).estimate → held ≡ table 32 (home_count (world_view w).net) → used ≡ table 32 (used_count (world_view w)) → accepted_list r held used w.net.size ≡ list_verdict (world_view w) accepted
 accepted_world w r held used h a b c = ap (accepted_list r held used) (sym (size_world w)) ∙ rw (a, b, c) (accepted_list_lem (world_view w) h)
 
-pub report_long : (w : WorldRead) {r : List ℕ} → r ≡ report (world_view w).net (world_view w).estimate → length r ≡ 1024
+pub report_long : (w : World) {r : List ℕ} → r ≡ report (world_view w).net (world_view w).estimate → length r ≡ 1024
 unfolding report
 report_long w e = ap length e ∙ length_table 1024 _
 
-pub counts_by : (w : WorldRead) {held used : List ℕ} → held ≡ table 32 (home_count (world_view w).net) → used ≡ table 32 (used_count (world_view w)) → Counts held used
+pub counts_by : (w : World) {held used : List ℕ} → held ≡ table 32 (home_count (world_view w).net) → used ≡ table 32 (used_count (world_view w)) → Counts held used
 counts_by w {held} {used} a b = subst (λ (h : List ℕ). Counts h used) (sym a) (subst (Counts (table 32 (home_count (world_view w).net))) (sym b) (counts_tables (world_view w)))
 
-pub world_few : (w : WorldRead) → WellFormed w → (world_view w).net.size ≤ 32
+pub world_few : (w : World) → WellFormed w → (world_view w).net.size ≤ 32
 world_few w S = S.net.sites_few
 
-pub size_few : (w : WorldRead) → WellFormed w → w.net.size ≤ 32
+pub size_few : (w : World) → WellFormed w → w.net.size ≤ 32
 size_few w S = omega (arith, world_few w S, size_world w)
 
--- what is listed, by the reading
-module _ (w : WorldRead) where
-  pub list_refused : (w.number ≡ 0 → ⊥) → list_read (refused w.number w.row) ≡ list_read (world_answer w)
-  unfolding world_answer
-  list_refused h = rw (ne_eqb w.number 0 h)
-
-  pub list_verdict_lem : (v : Verdict) → w.number ≡ 0 → v ≡ verdict (world_view w).net (world_view w).estimate → list_verdict (world_view w) v ≡ list_read (world_answer w)
-  unfolding world_answer list_read
-  list_verdict_lem v z e = rw (eq-eqb w.number 0 z, e)
+-- what is listed of a verdict
+pub list_verdict_lem : (w : World) (v : Verdict) → v ≡ verdict (world_view w).net (world_view w).estimate → list_verdict (world_view w) v ≡ list_read (gives (world_view w))
+unfolding list_read
+list_verdict_lem w v e = rw e
 
 -- what is listed, by the input
 module _ (input : List ℕ) where
@@ -82,18 +82,16 @@ module _ (input : List ℕ) where
   unfolding listing
   list_long h = sym (ap (λ (b : Bool). elim b [ true ↦ list_read (refused 2 0) | false ↦ list_read (read_both (net_part input) (estimate_part input)) ]) (lt-ltb input_limit (length input) h))
 
-  pub list_parts : (w : WorldRead) (net estimate : List ℕ) → length input ≤ input_limit → world_answer w ≡ read_both net estimate → net ≡ net_part input → estimate ≡ estimate_part input → list_read (world_answer w) ≡ listing input
+  pub list_parts : {a : Answer Spec.World} {net estimate : List ℕ} → length input ≤ input_limit → a ≡ read_both net estimate → net ≡ net_part input → estimate ≡ estimate_part input → list_read a ≡ listing input
   unfolding listing
-  list_parts w net estimate h e a b =
-      ap list_read (e ∙ ap₂ read_both a b)
+  list_parts h e p q =
+      ap list_read (e ∙ ap₂ read_both p q)
       ∙ sym (ap (λ (b : Bool). elim b [ true ↦ list_read (refused 2 0) | false ↦ list_read (read_both (net_part input) (estimate_part input)) ]) (le-ltb input_limit (length input) h))
 
-  -- the row of a refusal
-  pub row_low : (w : WorldRead) (net estimate : List ℕ) → length input ≤ input_limit → length net ≤ length input → length estimate ≤ length input → world_answer w ≡ read_both net estimate → (w.number ≡ 0 → ⊥) → w.row < 100000
-  unfolding world_answer
-  row_low w net estimate h a b e z =
-      let g : refused w.number w.row ≡ read_both net estimate = ap (λ (b : Bool). cond b (gives (world_view w)) (refused w.number w.row)) (sym (ne_eqb w.number 0 z)) ∙ e in
-      omega (arith, both_row net estimate 65537 w.number w.row (omega arith) (omega arith) g)
+  -- what was read is well-formed, or its refusal has a row of the input
+  pub read_shape : (r : Result World Refusal) (net estimate : List ℕ) → length input ≤ input_limit → length net ≤ length input → length estimate ≤ length input → answer_of world_view r ≡ read_both net estimate → MatchResult r WellFormed (λ e. e.row < 100000)
+  read_shape (Ok w) net estimate h a b e = sound net estimate w e
+  read_shape (Err r) net estimate h a b e = omega (arith, both_row net estimate 65537 (number_of r.why) r.row (omega arith) (omega arith) e)
 
 -- the two parts of the input
 module _ (input : List ℕ) where

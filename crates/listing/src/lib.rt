@@ -1,21 +1,23 @@
 //! The March listing, from bytes to bytes.
 #![tactic(auto)]
 
-ghost use Rattle.std.specs.Prelude.{◌≡◌, [], ◌∷◌, ◌+◌, ◌*◌, ◌<◌, ◌≤◌, length};
+ghost use Rattle.std.specs.Prelude.{◌≡◌, [], ◌∷◌, ◌+◌, ◌*◌, ◌<◌, ◌≤◌, length, MatchResult};
 ghost use Rattle.klaim.specs.Limits.{site_limit, report_size};
 ghost use Rattle.sets.specs.Lists.{table};
 ghost use Rattle.klaim.specs.Analysis.{accepted};
 ghost use Rattle.klaim.specs.Reader.{refused};
 ghost use Rattle.klaim.specs.Listing.{numeral, row as word_row, rows_v, home_count, used_count, list_verdict, list_read, listing as listing_of};
-ghost use Rattle.worlds.specs.World.{world_view, world_answer};
+ghost use Rattle.worlds.specs.World.{world_view};
+ghost use Rattle.klaim.specs.Refusals.{answer_of};
 ghost use Rattle.checker.specs.Check.{WellFormed};
 ghost use Rattle.writer.specs.Wrote.{Wrote};
 ghost use Rattle.writer.specs.Letters.{letter_table};
 ghost use Rattle.listing.specs.Lines.{entry_v, line_u, lines_u, accepted_list, Counts};
 
+use klaim::Refusal;
 use tables::{REPORT, SITES};
 use verdict::Verdict;
-use worlds::WorldRead;
+use worlds::World;
 use writer::LetterTable;
 
 // The longest listing: 14 bytes of `accepted`, 1,024 V rows of 16, 32 U rows of 19.
@@ -98,7 +100,7 @@ fn put_listing<'a>(
 const INPUT: usize = 65536;
 
 // The counts of the rights that each site uses of those it holds.
-fn used(w: WorldRead) -> [u32; 32]
+fn used(w: World) -> [u32; 32]
     requires { WellFormed w }
     ensures { result ≡ table 32 (used_count (world_view w)) }
 {
@@ -115,14 +117,14 @@ fn used(w: WorldRead) -> [u32; 32]
 }
 
 // The counts of the rights that each site holds.
-fn held(w: WorldRead) -> [u32; 32]
+fn held(w: World) -> [u32; 32]
     ensures { result ≡ table 32 (home_count (world_view w).net) }
 {
     counts::home_counts(&w.net.homes)
 }
 
 // The listing of a net that is accepted.
-fn list_accepted(w: WorldRead, out: &mut [u8]) -> usize
+fn list_accepted(w: World, out: &mut [u8]) -> usize
     requires { WellFormed w × (17006 ≤ length out.old) }
     ensures wrote { Wrote out.old out.new 0 (list_verdict (world_view w) accepted) result }
     ensures upper_bound { result ≤ 17006 }
@@ -153,16 +155,15 @@ fn put_break(out: &mut [u8], kind: u8, number: u16) -> usize
 }
 
 // The listing of a net that was read, or of its refusal.
-fn list_read(w: WorldRead, out: &mut [u8]) -> usize
-    requires { (w.number ≡ 0 → WellFormed w) × ((w.number ≡ 0 → ⊥) → w.row < 100000) × (17006 ≤ length out.old) }
-    ensures wrote { Wrote out.old out.new 0 (list_read (world_answer w)) result }
+fn list_read(read: Result<World, Refusal>, out: &mut [u8]) -> usize
+    requires { MatchResult read WellFormed (λ e. e.row < 100000) × (17006 ≤ length out.old) }
+    ensures wrote { Wrote out.old out.new 0 (list_read (answer_of world_view read)) result }
     ensures upper_bound { result ≤ 17006 }
 {
-    let number = w.number;
-    if number != 0 {
-        let row = w.row;
-        return put_refusal(out, number, row);
-    }
+    let w = match read {
+        Ok(w) => w,
+        Err(refusal) => return put_refusal(out, refusal.why.number(), refusal.row),
+    };
     match checker::judged(w) {
         Verdict::Accepted => list_accepted(w, out),
         Verdict::BrokenTuple(i) => put_break(out, b'T', i),
@@ -181,6 +182,5 @@ pub fn list(input: &[u8], output: &mut [u8; 17006]) -> usize
     }
     let n = parts::before(input);
     let from = parts::behind(input, n);
-    let w = worlds::read_both(&input[..n], &input[from..]);
-    list_read(w, output)
+    list_read(worlds::read_both(&input[..n], &input[from..]), output)
 }

@@ -1,4 +1,4 @@
-pub mod Placed
-pub mod Defaults
 pub mod Rows
-pub mod Loop
+pub mod Held
+pub mod Finish
+pub mod Defaults

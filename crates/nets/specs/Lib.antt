@@ -1,3 +1,3 @@
+pub mod Room
 pub mod Rows
 pub mod Defaults
-pub mod Read

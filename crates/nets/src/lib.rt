@@ -1,217 +1,199 @@
 //! A net, read from its bytes.
 #![tactic(auto)]
 
-ghost use Rattle.std.specs.Prelude.{◌≡◌, true, List, [], ◌∷◌, ◌++◌, map, ℕ, ◌<◌, length};
-ghost use Rattle.klaim.specs.Limits.{boxes_size};
-ghost use Rattle.klaim.specs.Rows.{Row, group_t};
-ghost use Rattle.klaim.specs.Reader.{a_net, judge, in_limits, repeated, read_net};
-ghost use Rattle.forms.specs.Forms.{row_view, row_data, row_good};
-ghost use Rattle.scan.specs.Numbers.{judged_by};
+ghost use Rattle.std.specs.Prelude.{◌≡◌, true, List, [], ◌∷◌, ◌++◌, ◌<◌, ◌≤◌, eqb, leb, length, OnOk};
+ghost use Rattle.klaim.specs.Rows as Spec;
+ghost use Rattle.klaim.specs.Rows.{group_n, group_q};
+ghost use Rattle.klaim.specs.Reader.{a_net, Text, judge, in_limits, repeated, whole_net, read_net};
+ghost use Rattle.klaim.specs.Refusals.{answer_of};
+ghost use Rattle.std.proofs.Math.Option.{some};
+ghost use Rattle.forms.specs.Forms.{group_number, row_data};
+ghost use Rattle.tables.specs.View.{net_view};
+ghost use Rattle.scan.specs.Reasons.{judged_by};
 ghost use Rattle.scan.specs.Tallies.{counted_of};
-ghost use Rattle.tables.specs.View.{lines_view, roots_view};
-ghost use Rattle.repeats.specs.Kept.{KeysAre};
-ghost use Rattle.nets.specs.Rows.{NetTables, NetTally, Room, full_of, placed_of, Passed};
+ghost use Rattle.nets.specs.Rows.{NetTables, NetHolds, full_of, placed_of, Passed};
 ghost use Rattle.nets.specs.Defaults.{own_of, with_own, cleared};
-ghost use Rattle.nets.specs.Read.{net_answer, refusal_of};
 
-use forms::RowData;
-use scan::Tally;
+mod reading;
+
+use forms::{Group, Row};
+use klaim::{Reason, Refusal};
+use reading::NetReader;
+use scan::{Reader, Tally};
 use sets::EVERY;
 use tables::{BOX, BOXES, LINES, Net, OWN, SANDBOXES, THREADS, TUPLES};
-use text::{GROUP_D, GROUP_L, GROUP_N, GROUP_Q, GROUP_R, GROUP_T, UNSAID};
+use text::UNSAID;
 
-// A net, or the number of a refusal and its row; the number is 0 if there is none.
-#[derive(Clone, Copy)]
-pub struct NetRead {
-    pub number: u8,
-    pub row: usize,
-    pub net: Net,
+// Whether a group is that of the first row of a net, and whether it is one of a net's.
+fn is_head(group: Group) -> bool
+    ensures { result ≡ eqb (group_number group) group_n }
+{
+    group == Group::N
 }
 
-// Whether no row of this group may follow.
-fn is_full(group: u8, tally: Tally) -> bool
-    ensures { result ≡ full_of group tally }
+fn is_own(group: Group) -> bool
+    ensures { result ≡ leb (group_number group) group_q }
 {
-    let tuples = tally.tuples;
-    let roots = tally.roots;
-    let lines = tally.lines;
-    match group {
-        GROUP_T => TUPLES <= tuples,
-        GROUP_L => THREADS <= roots,
-        GROUP_Q => LINES <= lines,
-        _ => false,
-    }
+    group <= Group::Q
 }
 
-// Whether a row of this group may follow the rows above.
-fn is_placed(group: u8, tally: Tally) -> bool
-    ensures { result ≡ placed_of group tally }
-{
-    if group < tally.last {
-        return false;
-    }
-    if GROUP_Q < group {
-        return false;
-    }
-    if tally.rows == 0 {
-        return group == GROUP_N;
-    }
-    group != GROUP_N
-}
-
-// Whether the row stands above.
-fn is_seen(
-    row: RowData,
-    tally: Tally,
-    homes: &[u8; 1024],
-    boxes: &[u8; 1056],
-    keys: &[u32; 256],
-    roots: &[u8; 128],
-) -> bool
-    requires row_value { row_good row ≡ true }
-    requires group_nonzero { 0 < row.group }
-    requires row_value_2 { in_limits (row_data row) ≡ true }
-    requires tally_value { placed_of row.group tally ≡ true }
-    requires room { Room tally × (length homes.now ≡ 1024) × (length boxes.now ≡ 1056) × (length keys.now ≡ 256) × (length roots.now ≡ 128) }
-    ensures { (above : List Row) (tuples lines : List ℕ) → NetTally above tally → NetTables above homes.now boxes.now tuples tally.tuples roots.now tally.roots lines tally.lines → KeysAre group_t above keys.now tally.tuples → result ≡ repeated above (row_data row) }
-{
-    let group = row.group;
-    match group {
-        GROUP_R => repeats::pair_seen(homes, row),
-        GROUP_D => repeats::box_seen(boxes, row),
-        GROUP_T => repeats::tuple_seen(keys, tally.tuples, row),
-        GROUP_L => repeats::root_seen(roots, tally.roots, row),
-        _ => false,
-    }
-}
-
-// The number by which the row is refused, or 0.
-fn row_number(
-    row: RowData,
-    tally: Tally,
-    homes: &[u8; 1024],
-    boxes: &[u8; 1056],
-    keys: &[u32; 256],
-    roots: &[u8; 128],
-) -> u8
-    requires row_value { row_good row ≡ true }
-    requires room { Room tally × (length homes.now ≡ 1024) × (length boxes.now ≡ 1056) × (length keys.now ≡ 256) × (length roots.now ≡ 128) }
-    ensures row_value_2 { (above : List Row) (tuples lines : List ℕ) → NetTally above tally → NetTables above homes.now boxes.now tuples tally.tuples roots.now tally.roots lines tally.lines → KeysAre group_t above keys.now tally.tuples → judge a_net above (row_view row) ≡ judged_by result (row_data row) }
-    ensures passed { result ≡ 0 → Passed row tally }
-{
-    let group = row.group;
-    let first = scan::early(row, is_full(group, tally), is_placed(group, tally));
-    if first != 0 {
-        return first;
-    }
-    if is_seen(row, tally, homes, boxes, keys, roots) {
-        return 3;
-    }
-    scan::late(row, tally.size)
-}
-
-// The row put into its table.
-fn store(
-    row: RowData,
-    tally: Tally,
-    homes: &mut [u8; 1024],
-    boxes: &mut [u8; 1056],
-    tuples: &mut [u8; 1536],
-    roots: &mut [u8; 128],
-    lines: &mut [u8; 2560],
-)
-    requires row_value { row_good row ≡ true }
-    requires passed { Passed row tally }
-    requires homes_len { (length homes.old ≡ 1024) × (length boxes.old ≡ 1056) × (length tuples.old ≡ 1536) × (length roots.old ≡ 128) × (length lines.old ≡ 2560) }
-    ensures homes_len_2 { (length homes.new ≡ 1024) × (length boxes.new ≡ 1056) × (length tuples.new ≡ 1536) × (length roots.new ≡ 128) × (length lines.new ≡ 2560) }
-    ensures net_tables { (above : List Row) → NetTables above homes.old boxes.old tuples.old tally.tuples roots.old tally.roots lines.old tally.lines → NetTables (above ++ (row_data row ∷ [])) homes.new boxes.new tuples.new (counted_of row tally).tuples roots.new (counted_of row tally).roots lines.new (counted_of row tally).lines }
-{
-    let group = row.group;
-    match group {
-        GROUP_R => {
-            stores::put_pair(homes, row);
+impl NetReader {
+    // Nothing is read.
+    fn new() -> NetReader
+        ensures { NetHolds a_net [] result }
+    {
+        NetReader {
+            homes: [0; 1024],
+            boxes: [UNSAID; 1056],
+            tuples: [0; 1536],
+            keys: [0; 256],
+            roots: [0; 128],
+            lines: [0; 2560],
+            tally: Tally::start(0),
         }
-        GROUP_D => {
-            stores::put_box(boxes, row);
+    }
+
+    // Whether no row of this group may follow.
+    fn is_full(&self, group: Group) -> bool
+        ensures { result ≡ full_of (group_number group) self.now.tally }
+    {
+        match group {
+            Group::T => TUPLES <= self.tally.tuples,
+            Group::L => THREADS <= self.tally.roots,
+            Group::Q => LINES <= self.tally.lines,
+            _ => false,
         }
-        GROUP_T => {
-            stores::put_row(tuples, tally.tuples, row);
+    }
+
+    // Whether a row of this group may follow the rows above: N stands first, and once.
+    fn is_placed(&self, group: Group) -> bool
+        ensures { result ≡ placed_of (group_number group) self.now.tally }
+    {
+        let headed = self.tally.last.is_none() == is_head(group);
+        headed & is_own(group) & self.tally.in_order(group)
+    }
+
+    // Whether the row stands above.
+    fn is_seen(&self, row: &Row) -> bool
+        requires low { in_limits (row_data row.now) ≡ true }
+        requires placed { placed_of (row_data row.now).group self.now.tally ≡ true }
+        ensures { (above : List Spec.Row) → NetHolds a_net above self.now → result ≡ repeated above (row_data row.now) }
+    {
+        match row {
+            Row::R(pair) => repeats::pair_seen(&self.homes, pair),
+            Row::D(sandbox) => repeats::box_seen(&self.boxes, sandbox),
+            Row::T(tuple) => repeats::tuple_seen(&self.keys, self.tally.tuples, tuple),
+            Row::L(root) => repeats::root_seen(&self.roots, self.tally.roots, root),
+            _ => false,
         }
-        GROUP_L => {
-            stores::put_root(roots, tally.roots, row);
+    }
+
+    // Whether the row is let through.
+    fn admits(&self, row: &Row) -> Result<(), Reason>
+        ensures judged { (above : List Spec.Row) → NetHolds a_net above self.now → judge a_net above (some (row_data row.now)) ≡ judged_by result (row_data row.now) }
+        ensures passed { OnOk result (Passed row.now self.now.tally) }
+    {
+        let group = row.group();
+        scan::early(row, self.is_full(group), self.is_placed(group))?;
+        if self.is_seen(row) {
+            return Err(Reason::Place);
         }
-        GROUP_Q => {
-            stores::put_process(lines, tally.lines, row);
+        scan::late(row, self.tally.size)
+    }
+
+    // The row put into its table, and not counted yet.
+    fn put(&mut self, row: &Row)
+        requires { Passed row.now self.old.tally }
+        ensures tally_same { self.new.tally ≡ self.old.tally }
+        ensures tables { (above : List Spec.Row) → NetTables above self.old self.old.tally → NetTables (above ++ (row_data row.now ∷ [])) self.new (counted_of row.now self.old.tally) }
+    {
+        match row {
+            Row::R(pair) => stores::put_pair(&mut self.homes, pair),
+            Row::D(sandbox) => stores::put_box(&mut self.boxes, sandbox),
+            Row::T(tuple) => {
+                stores::put_row(&mut self.tuples, self.tally.tuples, tuple);
+                repeats::keep_key(&mut self.keys, self.tally.tuples, tuple);
+            }
+            Row::L(root) => stores::put_root(&mut self.roots, self.tally.roots, root),
+            Row::Q(process) => stores::put_process(&mut self.lines, self.tally.lines, process),
+            _ => {}
         }
-        _ => {}
+    }
+
+    // The net, or why the text as a whole is refused.
+    fn finish(&self) -> Result<Net, Refusal>
+        ensures { (rows : List Spec.Row) → NetHolds a_net rows self.now → answer_of net_view result ≡ whole_net rows }
+    {
+        let tally = self.tally;
+        if tally.last.is_none() {
+            return Err(Refusal {
+                why: Reason::Place,
+                row: 1,
+            });
+        }
+        whole::whole(
+            tally.turn,
+            &self.lines,
+            tally.lines,
+            &self.roots,
+            tally.roots,
+        )?;
+        let mut boxes = self.boxes;
+        fill_unsaid(&mut boxes);
+        Ok(Net {
+            size: tally.size as u8,
+            homes: self.homes,
+            boxes,
+            tuples: self.tuples,
+            ntuples: tally.tuples,
+            roots: self.roots,
+            nroots: tally.roots,
+            lines: self.lines,
+            nlines: tally.lines,
+        })
     }
 }
 
-// The number of a refusal, 0 if there is none, and its row.
-#[derive(Clone, Copy)]
-pub struct Refusal {
-    pub number: u8,
-    pub row: usize,
-}
+impl Reader for NetReader {
+    ghost holds = { NetHolds };
 
-// What refuses the net whose rows are read, if anything does.
-fn refused_by(tally: Tally, lines: &[u8; 2560], roots: &[u8; 128]) -> Refusal
-    requires { Room tally × (length lines.now ≡ 2560) }
-    ensures { result ≡ refusal_of tally (lines_view tally.lines lines.now) (map (λ x. x.line) (roots_view tally.roots roots.now)) }
-{
-    let number = tally.number;
-    let rows = tally.rows;
-    if number != 0 {
-        return Refusal { number, row: rows };
-    }
-    if rows == 0 {
-        return Refusal { number: 3, row: 1 };
-    }
-    let whole = whole::whole_number(tally.turn, lines, tally.lines, roots, tally.roots);
-    Refusal {
-        number: whole,
-        row: 0,
+    fn take(&mut self, row: &Row) -> Result<(), Reason> {
+        self.admits(row)?;
+        self.put(row);
+        self.tally.count(row);
+        Ok(())
     }
 }
 
 // What a sandbox has for `self`: the rights that a row says, or else every right.
+#[tactic(auto, unfolding(crate::specs::Defaults::own_of))]
 fn own_rights(said: u8) -> u8
     ensures { result ≡ own_of said }
 {
-    if said < UNSAID {
-        return said;
-    }
-    EVERY
+    if said < UNSAID { said } else { EVERY }
 }
 
 // The rights of each sandbox for `self`.
 fn put_own(boxes: &mut [u8; BOXES])
-    requires { length boxes.old ≡ boxes_size }
     ensures { boxes.new ≡ with_own boxes.old }
 {
-    let mut k: usize = 0;
-    while k < SANDBOXES {
+    for k in 0..SANDBOXES {
         let at = BOX * k + OWN;
         boxes[at] = own_rights(boxes[at]);
-        k += 1;
     }
 }
 
 // No rights where no row speaks: `UNSAID` becomes 0, what is less stays.
 fn clear_unsaid(boxes: &mut [u8; BOXES])
-    requires { length boxes.old ≡ boxes_size }
     ensures { boxes.new ≡ cleared boxes.old }
 {
-    let mut i: usize = 0;
-    while i < BOXES {
-        boxes[i] = boxes[i] % UNSAID;
-        i += 1;
+    for i in 0..BOXES {
+        boxes[i] %= UNSAID;
     }
 }
 
 // What sandboxes have where no row speaks, when all rows are read.
 fn fill_unsaid(boxes: &mut [u8; BOXES])
-    requires { length boxes.old ≡ boxes_size }
     ensures { boxes.new ≡ cleared (with_own boxes.old) }
 {
     put_own(boxes);
@@ -219,58 +201,10 @@ fn fill_unsaid(boxes: &mut [u8; BOXES])
 }
 
 // A net from its bytes.
-pub fn read_net(s: &[u8]) -> NetRead
-    ensures { net_answer result ≡ read_net s.now }
+pub fn read_net(s: &[u8]) -> Result<Net, Refusal>
+    ensures { answer_of net_view result ≡ read_net s.now }
 {
-    let mut homes = [0u8; 1024];
-    let mut boxes = [UNSAID; BOXES];
-    let mut tuples = [0u8; 1536];
-    let mut keys = [0u32; 256];
-    let mut roots = [0u8; 128];
-    let mut lines = [0u8; 2560];
-    let mut tally = scan::start(0);
-    let mut at = 0;
-    while at < s.len() {
-        let next = scan::row_at(s, at);
-        let row = next.row;
-        let end = next.end;
-        let number = row_number(row, tally, &homes, &boxes, &keys, &roots);
-        if number == 0 {
-            store(
-                row,
-                tally,
-                &mut homes,
-                &mut boxes,
-                &mut tuples,
-                &mut roots,
-                &mut lines,
-            );
-            repeats::keep_key(&mut keys, tally.tuples, GROUP_T, row);
-            tally = scan::counted(row, tally);
-            at = end + 1;
-        } else {
-            tally = scan::turned_away(tally, number);
-            at = s.len();
-        }
-    }
-    let told = refused_by(tally, &lines, &roots);
-    let size = tally.size as u8;
-    let ntuples = tally.tuples;
-    let nroots = tally.roots;
-    let nlines = tally.lines;
-    fill_unsaid(&mut boxes);
-    let net = Net {
-        size,
-        homes,
-        boxes,
-        tuples,
-        ntuples,
-        roots,
-        nroots,
-        lines,
-        nlines,
-    };
-    let number = told.number;
-    let row = told.row;
-    NetRead { number, row, net }
+    let mut reader = NetReader::new();
+    scan::read(&mut reader, s)?;
+    reader.finish()
 }

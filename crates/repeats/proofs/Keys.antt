@@ -1,7 +1,7 @@
 -- Laws of the keys of tuples.
 -- Assumes nothing.
 use mathlib.Core.Path.{◌≡◌, refl, sym, ap, ap₂, ◌∙◌}
-use mathlib.Core.Bool.{Bool, true, cond}
+use mathlib.Core.Bool.{Bool, true}
 use mathlib.Core.List.{List, [], ◌∷◌, ◌++◌}
 use Prim.Native.Nat.{ℕ, zero, suc, ◌+◌, ◌*◌, ◌<◌, ◌≤◌}
 use native.Mathlib.Omega.{arith}
@@ -15,9 +15,6 @@ use Rattle.sets.proofs.Lists.{and_l, and_r, any_last}
 use Rattle.klaim.specs.Rows.{Row}
 use Rattle.klaim.proofs.Above.{map_own, map_other}
 use Rattle.tables.specs.View.{row_at}
-use Rattle.forms.specs.declared.RowData.{RowData}
-use Rattle.forms.specs.Forms.{row_data, row_good}
-use Rattle.judge.proofs.Limits.{group_is}
 use Rattle.repeats.specs.Kept.{tuple_key, key_step, KeysAre}
 
 -- a key is never 0
@@ -78,7 +75,7 @@ pub key_chain : (bs : List ℕ) → length bs ≡ 6 → (fifth fourth third seco
 key_chain bs h k5 k4 k3 k2 k1 e5 e4 e3 e2 e1 = rw (e1, e2, e3, e4, e5) (sym (key_bytes bs h))
 
 -- one key more
-keys_own : {g k v : ℕ} {above : List Row} {keys new : List ℕ} (r : Row) → k < length keys → new ≡ set keys k v → v ≡ tuple_key r.sites → r.group ≡ g → KeysAre g above keys k → KeysAre g (above ++ (r ∷ [])) new (k + 1)
+pub keys_own : {g k v : ℕ} {above : List Row} {keys new : List ℕ} (r : Row) → k < length keys → new ≡ set keys k v → v ≡ tuple_key r.sites → r.group ≡ g → KeysAre g above keys k → KeysAre g (above ++ (r ∷ [])) new (k + 1)
 keys_own {g} {k} {v} {above} {keys} {new} r h e q p K = record {
   is =
       ap (λ (m : ℕ). take m new) {x = k + 1} {y = suc k} (omega arith)
@@ -88,16 +85,8 @@ keys_own {g} {k} {v} {above} {keys} {new} r h e q p K = record {
       ∙ sym (map_own (λ r. tuple_key r.sites) g above r (eq-eqb r.group g p));
 }
 
-keys_other : {g k : ℕ} {above : List Row} {keys : List ℕ} (r : Row) → (r.group ≡ g → ⊥) → KeysAre g above keys k → KeysAre g (above ++ (r ∷ [])) keys k
+pub keys_other : {g k : ℕ} {above : List Row} {keys : List ℕ} (r : Row) → (r.group ≡ g → ⊥) → KeysAre g above keys k → KeysAre g (above ++ (r ∷ [])) keys k
 keys_other {g} {k} {above} {keys} r p K = record { is = K.is ∙ sym (map_other (λ r. tuple_key r.sites) g above r (ne_eqb r.group g p)) }
-
--- the keys of group g with a row put in
-module _ (row : RowData) (G : row_good row ≡ true) (h : 0 < row.group) {g k : ℕ} {above : List Row} {keys : List ℕ} (K : KeysAre g above keys k) where
-  pub keep_other : (row.group ≡ g → ⊥) → KeysAre g (above ++ (row_data row ∷ [])) keys (cond (eqb row.group g) (k + 1) k)
-  keep_other away = rw (ne_eqb row.group g away) (keys_other (row_data row) (λ q. away (sym (group_is row G h) ∙ q)) K)
-
-  pub keep_own : row.group ≡ g → {new : List ℕ} {v : ℕ} → k < length keys → new ≡ set keys k v → v ≡ tuple_key (row_data row).sites → KeysAre g (above ++ (row_data row ∷ [])) new (cond (eqb row.group g) (k + 1) k)
-  keep_own e l n q = rw (eq-eqb row.group g e) (keys_own (row_data row) l n q (group_is row G h ∙ e) K)
 
 -- a search through the first keys
 pub any_more : (f : ℕ → Bool) (l : List ℕ) (i : ℕ) → i < length l → either (any f (take i l)) (f (get_or l i 0)) ≡ any f (take (i + 1) l)

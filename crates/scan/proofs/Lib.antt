@@ -1,3 +1,3 @@
 pub mod Progress
-pub mod Numbers
+pub mod Reasons
 pub mod Tallies

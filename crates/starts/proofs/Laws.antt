@@ -27,8 +27,8 @@ use Rattle.tables.specs.declared.Estimate.{Estimate}
 use Rattle.tables.specs.View.{net_view, root_at, roots_view}
 use Rattle.threads.specs.View.{bindings_view, threads_view}
 use Rattle.threads.proofs.Laws.{bindings_none}
-use Rattle.worlds.specs.declared.WorldRead.{WorldRead}
-use Rattle.worlds.specs.World.{world_view, world_answer}
+use Rattle.worlds.specs.declared.World as Code
+use Rattle.worlds.specs.World.{world_view}
 use Rattle.state.specs.declared.State.{State}
 use Rattle.state.specs.View.{ground_view, state_view}
 use Rattle.state.specs.Fits.{Fits}
@@ -71,14 +71,13 @@ module _ (N : Net) (bs : List ℕ) where
       ∙ ap (concat (λ x. settle N.lines (root_thread N x))) (sym (table_snoc i (root_at bs))))
 
 -- the state that begins, or the refusal
-module _ (w : WorldRead) (ts : Threads) where
-  pub begun_refused : (w.number ≡ 0 → ⊥) → start_view (begun_of w.net w.estimate ts w.number w.row) ≡ and_then (world_answer w) (λ x. gives (begin x))
-  unfolding start_view begun_of world_answer and_then
-  begun_refused h = rw (ne_eqb w.number 0 h)
+pub begun_refused : (N : Tables.Net) (E : Estimate) (ts : Threads) (number row : ℕ) → (number ≡ 0 → ⊥) → start_view (begun_of N E ts number row) ≡ refused number row
+unfolding start_view begun_of
+begun_refused N E ts number row h = rw (ne_eqb number 0 h)
 
-  pub begun_gives : w.number ≡ 0 → threads_view ts.count ts.items ≡ concat (λ x. settle (net_view w.net).lines (root_thread (net_view w.net) x)) (roots_view w.net.nroots w.net.roots) → start_view (begun_of w.net w.estimate ts 0 0) ≡ and_then (world_answer w) (λ x. gives (begin x))
-  unfolding start_view begun_of ground_of world_answer world_view and_then begin state_view ground_view net_view
-  begun_gives z e = rw (z, e)
+pub begun_gives : (w : Code.World) (ts : Threads) → threads_view ts.count ts.items ≡ concat (λ x. settle (net_view w.net).lines (root_thread (net_view w.net) x)) (roots_view w.net.nroots w.net.roots) → start_view (begun_of w.net w.estimate ts 0 0) ≡ gives (begin (world_view w))
+unfolding start_view begun_of ground_of world_view begin state_view ground_view net_view
+begun_gives w ts e = rw e
 
 -- a state that begins holds no more than it may: nothing was brought yet
 pub begun_fits : (N : Tables.Net) (E : Estimate) (ts : Threads) (number row : ℕ) → length N.lines ≡ 2560 → length N.tuples ≡ 1536 → ts.count ≤ 64 → Invariant (state_view (begun_of N E ts number row)) → Fits (begun_of N E ts number row)
@@ -95,30 +94,26 @@ begun_fits N E ts number row lines tuples few i = record {
 }
 
 -- what was read
-module _ (w : WorldRead) (net estimate : List ℕ) (e : world_answer w ≡ read_both net estimate) where
-  world_read : w.number ≡ 0 → read_both net estimate ≡ gives (world_view w)
-  unfolding world_answer
-  world_read z = sym e ∙ ap (λ (b : Bool). cond b (gives (world_view w)) (refused w.number w.row)) (eq-eqb w.number 0 z)
-
-  net_ok : w.number ≡ 0 → NetOk (net_view w.net)
+module _ (w : Code.World) (net estimate : List ℕ) (e : gives (world_view w) ≡ read_both net estimate) where
+  net_ok : NetOk (net_view w.net)
   unfolding world_view
-  net_ok z = (both_read net estimate (world_view w) (world_read z)).0
+  net_ok = (both_read net estimate (world_view w) (sym e)).0
 
-  pub roots_in : w.number ≡ 0 → RootsPlaced w.net.roots w.net.nroots
+  pub roots_in : RootsPlaced w.net.roots w.net.nroots
   unfolding net_view roots_view root_at
-  roots_in z =
-      let ok = net_ok z in
-      let root : (i : ℕ) → i < w.net.nroots → RootOk (net_view w.net) (root_at w.net.roots i) = λ i h. All-in ok.roots_ok (table_in w.net.nroots (root_at w.net.roots) i h) in
+  roots_in =
+      let root : (i : ℕ) → i < w.net.nroots → RootOk (net_view w.net) (root_at w.net.roots i) = λ i h. All-in net_ok.roots_ok (table_in w.net.nroots (root_at w.net.roots) i h) in
       record {
-        few = omega (arith, ok.roots_few, length_table w.net.nroots (root_at w.net.roots));
-        placed = λ i h. omega (arith, (root i h).placed, ok.sites_few);
+        few = omega (arith, net_ok.roots_few, length_table w.net.nroots (root_at w.net.roots));
+        placed = λ i h. omega (arith, (root i h).placed, net_ok.sites_few);
       }
 
-  pub started : (st : State) → start_view st ≡ and_then (world_answer w) (λ x. gives (begin x)) → (Invariant (state_view st) → Fits st) → Started net estimate st
-  unfolding start start_view
-  started st q f =
-      let r = q ∙ ap (λ (a : Answer World). and_then a (λ x. gives (begin x))) e in
-      record {
-        result = r;
-        fits = λ z. f (start_gives net estimate (state_view st) (sym r ∙ ap (λ (b : Bool). cond b (gives (state_view st)) (refused st.run.told.number st.run.told.row)) (eq-eqb st.run.told.number 0 z)));
-      }
+-- a start, of what was read or of its refusal
+pub started : (net estimate : List ℕ) {a : Answer World} → a ≡ read_both net estimate → (st : State) → start_view st ≡ and_then a (λ x. gives (begin x)) → (Invariant (state_view st) → Fits st) → Started net estimate st
+unfolding start start_view
+started net estimate e st q f =
+    let r = q ∙ ap (λ (a : Answer World). and_then a (λ x. gives (begin x))) e in
+    record {
+      result = r;
+      fits = λ z. f (start_gives net estimate (state_view st) (sym r ∙ ap (λ (b : Bool). cond b (gives (state_view st)) (refused st.run.told.number st.run.told.row)) (eq-eqb st.run.told.number 0 z)));
+    }

@@ -4,21 +4,22 @@
 ghost use Rattle.std.specs.Prelude.{◌≡◌, [], ◌++◌, ℕ, ◌+◌, ◌*◌, ◌<◌, ◌≤◌, length, get_or};
 ghost use Rattle.sets.specs.Lists.{concat};
 ghost use Rattle.klaim.specs.Net as Spec;
-ghost use Rattle.klaim.specs.Reader.{gives, and_then};
+ghost use Rattle.klaim.specs.Reader.{refused as refused_of, gives};
+ghost use Rattle.klaim.specs.Refusals.{number_of};
 ghost use Rattle.klaim.specs.State.{settle, root_thread, begin as begin_of};
 ghost use Rattle.klaim.specs.Invariant.{Invariant};
 ghost use Rattle.tables.specs.View.{lines_view, roots_view};
 ghost use Rattle.threads.specs.View.{thread_view, threads_view};
-ghost use Rattle.worlds.specs.World.{world_answer};
+ghost use Rattle.worlds.specs.World.{world_view};
 ghost use Rattle.state.specs.View.{state_view};
 ghost use Rattle.state.specs.Fits.{Fits};
 ghost use Rattle.starts.specs.Started.{Started, RootsPlaced, start_view, ground_of, begun_of};
 
-use klaim::Site;
+use klaim::{Refusal, Site};
 use state::{Ground, Run, State, Told};
 use tables::{Estimate, Net};
 use threads::Thread;
-use worlds::WorldRead;
+use worlds::World;
 
 // A list of threads.
 #[derive(Clone, Copy)]
@@ -158,29 +159,62 @@ fn begun(net: Net, estimate: Estimate, list: Threads, number: u8, row: usize) ->
     }
 }
 
-// The state that begins from what was read, or the refusal.
-fn begin(w: WorldRead) -> State
-    requires { w.number ≡ 0 → RootsPlaced w.net.roots w.net.nroots }
-    ensures result_value { start_view result ≡ and_then (world_answer w) (λ x. gives (begin_of x)) }
+// No net and no estimate: what stands beside a refusal.
+const NET: Net = Net {
+    size: 0,
+    homes: [0; 1024],
+    boxes: [0; 1056],
+    tuples: [0; 1536],
+    ntuples: 0,
+    roots: [0; 128],
+    nroots: 0,
+    lines: [0; 2560],
+    nlines: 0,
+};
+
+const ESTIMATE: Estimate = Estimate {
+    binds: [0; 32],
+    stand: [0; 1536],
+    nstand: 0,
+    hold: [0; 1024],
+};
+
+// A refused start.
+fn refused(refusal: Refusal) -> State
+    ensures result_value { start_view result ≡ refused_of (number_of refusal.why) refusal.row }
     ensures fits { Invariant (state_view result) → Fits result }
 {
-    let number = w.number;
-    let row = w.row;
-    let net = w.net;
-    let estimate = w.estimate;
-    if number != 0 {
-        let none = no_threads();
-        return begun(net, estimate, none, number, row);
-    }
-    let m = w.net.nlines;
-    let n = w.net.nroots;
-    let list = root_threads(&w.net.lines, m, &w.net.homes, &w.net.roots, n);
-    begun(net, estimate, list, 0, 0)
+    begun(
+        NET,
+        ESTIMATE,
+        no_threads(),
+        refusal.why.number(),
+        refusal.row,
+    )
+}
+
+// The state that begins from a net and an estimate.
+fn begin(w: World) -> State
+    requires { RootsPlaced w.net.roots w.net.nroots }
+    ensures result_value { start_view result ≡ gives (begin_of (world_view w)) }
+    ensures fits { Invariant (state_view result) → Fits result }
+{
+    let list = root_threads(
+        &w.net.lines,
+        w.net.nlines,
+        &w.net.homes,
+        &w.net.roots,
+        w.net.nroots,
+    );
+    begun(w.net, w.estimate, list, 0, 0)
 }
 
 // The engine's state from the bytes of a net and an estimate: one thread for each root, in order, and the tuples.
 pub fn start(net: &[u8], estimate: &[u8]) -> State
     ensures { Started net.now estimate.now result }
 {
-    begin(worlds::read_both(net, estimate))
+    match worlds::read_both(net, estimate) {
+        Ok(world) => begin(world),
+        Err(refusal) => refused(refusal),
+    }
 }

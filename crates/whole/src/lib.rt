@@ -12,17 +12,17 @@ ghost use Rattle.whole.specs.Free.{mask_of, var_in, free_fields, free_forks, nam
 ghost use Rattle.whole.specs.Children.{list_of};
 ghost use Rattle.whole.specs.RootsIn.{RootsIn};
 ghost use Rattle.whole.specs.Counted.{Counted};
-ghost use Rattle.whole.specs.Number.{whole_number};
+ghost use Rattle.whole.specs.Reasons.{whole_of};
 
-use klaim::Loc;
-use tables::Action;
+use klaim::{Loc, Reason};
+use tables::{Action, ROOT, SORT};
 
 // Whether a child of line q is greater than q and one of the n lines.
 fn child_fits(q: usize, n: usize, child: u8) -> bool
     ensures { result ≡ ltb q child & ltb child n }
 {
-    let c = tables::wide(child);
-    q < c && c < n
+    let child = usize::from(child);
+    q < child && child < n
 }
 
 // The lines that a line names.
@@ -87,11 +87,8 @@ fn in_order(lines: &[u8; 2560], n: usize) -> bool
     requires { n ≤ 256 }
     ensures { result ≡ ordered (lines_view n lines.now) }
 {
-    let mut q: usize = 0;
-    while q < n {
-        if children_fit(children_at(lines, q as u8), q, n) {
-            q += 1;
-        } else {
+    for q in 0..n {
+        if !children_fit(children_at(lines, q as u8), q, n) {
             return false;
         }
     }
@@ -103,11 +100,8 @@ fn roots_present(roots: &[u8; 128], m: usize, n: usize) -> bool
     requires { m ≤ 64 }
     ensures { result ≡ all (λ q. ltb q n) (map (λ x. x.line) (roots_view m roots.now)) }
 {
-    let mut i: usize = 0;
-    while i < m {
-        if tables::wide(roots[2 * i + 1]) < n {
-            i += 1;
-        } else {
+    for i in 0..m {
+        if n <= usize::from(roots[ROOT * i + 1]) {
             return false;
         }
     }
@@ -125,7 +119,7 @@ fn one_more(count: u8) -> u8
 fn named(counts: &mut [u8; 256], q: u8)
     ensures { (xs : List ℕ) → Counted xs counts.old → Counted (xs ⧺ (q ∷ [])) counts.new }
 {
-    let at = q as usize;
+    let at = usize::from(q);
     counts[at] = one_more(counts[at]);
 }
 
@@ -150,11 +144,8 @@ fn named_lines(counts: &mut [u8; 256], lines: &[u8; 2560], n: usize)
     requires { n ≤ 256 }
     ensures { (xs : List ℕ) → Counted xs counts.old → Counted (xs ⧺ concat children (lines_view n lines.now)) counts.new }
 {
-    let mut q: usize = 0;
-    while q < n {
-        let cs = children_at(lines, q as u8);
-        named_children(counts, cs);
-        q += 1;
+    for q in 0..n {
+        named_children(counts, children_at(lines, q as u8));
     }
 }
 
@@ -163,11 +154,8 @@ fn all_one(counts: &[u8; 256], n: usize) -> bool
     requires { n ≤ 256 }
     ensures { result ≡ all (λ q. eqb (get_or counts.now q 0) 1) (below n) }
 {
-    let mut q: usize = 0;
-    while q < n {
-        if counts[q] == 1 {
-            q += 1;
-        } else {
+    for q in 0..n {
+        if counts[q] != 1 {
             return false;
         }
     }
@@ -180,10 +168,8 @@ fn named_roots(roots: &[u8; 128], m: usize) -> [u8; 256]
     ensures { Counted (map (λ x. x.line) (roots_view m roots.now)) result }
 {
     let mut counts = [0u8; 256];
-    let mut i: usize = 0;
-    while i < m {
-        named(&mut counts, roots[2 * i + 1]);
-        i += 1;
+    for i in 0..m {
+        named(&mut counts, roots[ROOT * i + 1]);
     }
     counts
 }
@@ -204,27 +190,27 @@ const USED: u8 = 2;
 const BOUND: u8 = 3;
 
 // The variable of a field's byte as a set, if the byte has this sort.
+#[tactic(auto, unfolding(crate::specs::Free::var_in, sets::specs::Bits::grant))]
 fn var_of(code: u8, sort: u8) -> u32
     ensures { result ≡ var_in sort code }
 {
-    if code / tables::SORT % 4 == sort {
-        return sets::single(code % tables::SORT);
+    if code / SORT % 4 == sort {
+        sets::single(code % SORT)
+    } else {
+        0
     }
-    0
 }
 
 // The variables of this sort in the first fields of line q.
 fn vars_in(lines: &[u8; 2560], q: u8, count: u8, sort: u8) -> u32
-    requires { (count ≤ 4) × (length lines.now ≡ 2560) }
+    requires { (count ≤ 4) }
     ensures { result ≡ joins (var_in sort) (take count (field_bytes lines.now q)) }
 {
-    let mut r: u32 = 0;
-    let mut j: u8 = count;
-    while 0 < j {
-        j -= 1;
-        r = var_of(tables::field_at(lines, q, j), sort) | r;
+    let mut vars: u32 = 0;
+    for j in 0..count {
+        vars |= var_of(tables::field_at(lines, q, j), sort);
     }
-    r
+    vars
 }
 
 // The variable of a target, as a set.
@@ -241,7 +227,7 @@ fn target_var(target: Loc) -> u32
 
 // The free variables of line q: those of its target and its fields, and those of the line that follows that are not bound.
 fn with_fields(lines: &[u8; 2560], q: u8, target: Loc, count: u8, binds: u8, rest: u32) -> u32
-    requires { LowLoc target × (count ≤ 4) × (binds ≤ 4) × (length lines.now ≡ 2560) }
+    requires { LowLoc target × (count ≤ 4) × (binds ≤ 4) }
     ensures { result ≡ free_fields target count binds (field_bytes lines.now q) rest }
 {
     let own = target_var(target);
@@ -303,7 +289,7 @@ fn names_of(action: Action) -> Names
 
 // The free variables of the process of line q. Children have greater numbers: 256 less q falls.
 fn free_vars(lines: &[u8; 2560], n: usize, q: u8) -> u32
-    requires { InForm n lines.now q × (length lines.now ≡ 2560) }
+    requires { InForm n lines.now q }
     ensures { result ≡ mask_of (free (tree (lines_view n lines.now) q)) }
 {
     let names = names_of(tables::action_at(lines, q));
@@ -324,7 +310,7 @@ fn free_vars(lines: &[u8; 2560], n: usize, q: u8) -> u32
 
 // Whether the process of line q has no free variable.
 fn closed(lines: &[u8; 2560], n: usize, q: u8) -> bool
-    requires { InForm n lines.now q × (length lines.now ≡ 2560) }
+    requires { InForm n lines.now q }
     ensures { result ≡ empty (free (tree (lines_view n lines.now) q)) }
 {
     free_vars(lines, n, q) == 0
@@ -335,36 +321,41 @@ fn roots_closed(lines: &[u8; 2560], n: usize, roots: &[u8; 128], m: usize) -> bo
     requires { RootsIn n lines.now m roots.now }
     ensures { result ≡ roots_closed (lines_view n lines.now) (map (λ x. x.line) (roots_view m roots.now)) }
 {
-    let mut i: usize = 0;
-    while i < m {
-        if closed(lines, n, roots[2 * i + 1]) {
-            i += 1;
-        } else {
+    for i in 0..m {
+        if !closed(lines, n, roots[ROOT * i + 1]) {
             return false;
         }
     }
     true
 }
 
-// 5, 6, 8 or 0, over a whole text: its lines in turn and in order with the roots among them, each named once, the roots closed.
-pub fn whole_number(turn: bool, lines: &[u8; 2560], n: usize, roots: &[u8; 128], m: usize) -> u8
-    requires { (n ≤ 256) × (m ≤ 64) × (length lines.now ≡ 2560) }
-    ensures { result ≡ whole_number turn (lines_view n lines.now) (map (λ x. x.line) (roots_view m roots.now)) }
+// Whether the lines are in turn and in order, with the roots among them.
+fn in_turn(turn: bool, lines: &[u8; 2560], n: usize, roots: &[u8; 128], m: usize) -> bool
+    requires { (n ≤ 256) × (m ≤ 64) }
+    ensures { result ≡ turn & ordered (lines_view n lines.now) & all (λ q. ltb q n) (map (λ x. x.line) (roots_view m roots.now)) }
 {
-    if !turn {
-        return 5;
-    }
-    if !in_order(lines, n) {
-        return 5;
-    }
-    if !roots_present(roots, m, n) {
-        return 5;
+    turn && in_order(lines, n) && roots_present(roots, m, n)
+}
+
+// 5, 6 and 8, over a whole text: its lines in turn and in order with the roots among them, each named once, the roots closed.
+pub fn whole(
+    turn: bool,
+    lines: &[u8; 2560],
+    n: usize,
+    roots: &[u8; 128],
+    m: usize,
+) -> Result<(), Reason>
+    requires { (n ≤ 256) × (m ≤ 64) }
+    ensures { result ≡ whole_of turn (lines_view n lines.now) (map (λ x. x.line) (roots_view m roots.now)) }
+{
+    if !in_turn(turn, lines, n, roots, m) {
+        return Err(Reason::Turn);
     }
     if !named_once(lines, n, roots, m) {
-        return 6;
+        return Err(Reason::Naming);
     }
     if !roots_closed(lines, n, roots, m) {
-        return 8;
+        return Err(Reason::Free);
     }
-    0
+    Ok(())
 }

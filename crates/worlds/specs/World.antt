@@ -1,14 +1,9 @@
--- What the reading of a net and an estimate comes to.
+-- What the reading of a net and an estimate gives.
 -- Assumes nothing.
-use Rattle.std.specs.Prelude.{cond, eqb}
-use Rattle.klaim.specs.Reader.{Answer, refused, gives, World}
+use Rattle.klaim.specs.Reader as Reader
 use Rattle.tables.specs.View.{net_view, estimate_view}
-use Rattle.worlds.specs.declared.WorldRead.{WorldRead}
+use Rattle.worlds.specs.declared.World.{World}
 
 -- the net and the estimate that were read
-unfoldable pub world_view : WorldRead → World
-world_view r = record { net = net_view r.net; estimate = estimate_view r.estimate }
-
--- both, or the number and the row of the refusal
-unfoldable pub world_answer : WorldRead → Answer World
-world_answer r = cond (eqb r.number 0) (gives (world_view r)) (refused r.number r.row)
+unfoldable pub world_view : World → Reader.World
+world_view w = record { net = net_view w.net; estimate = estimate_view w.estimate }

@@ -1,22 +1,22 @@
 use mathlib.Core.Path.{ap, ◌∙◌}
+use Rattle.std.proofs.lemmas.Result.{err_from_is_err_and}
 use Rattle.klaim.specs.Check.{Checked}
-use Rattle.checker.specs.Check.{answer_view}
 use Rattle.checker.proofs.Laws.{sound, too_short, not_read, was_read}
 use Rattle.checker.proofs.check.Goals as goal
 
 pub returns-then-buffer-lt-REPORT : goal.returns-then-buffer-lt-REPORT
-unfolding answer_view
-returns-then-buffer-lt-REPORT c = let p = too_short _ _ _ c.if-buffer-lt-REPORT.true in record { answer = p.0; buffer = p.1 }
+returns-then-buffer-lt-REPORT c = let p = too_short c.args.net.now c.args.estimate.now c.args.buffer.now c.if-buffer-lt-REPORT.true in rw c.from.ensures (record { answer = p.0; buffer = p.1 })
 
-pub returns-then-number-ne0 : goal.returns-then-number-ne0
-unfolding answer_view
-returns-then-number-ne0 c = let p = not_read _ _ _ _ c.if-buffer-lt-REPORT.false c.read_both-w.ensures c.if-number-ne0.true in record { answer = p.0; buffer = p.1 }
+pub returns-in_err-world : goal.returns-in_err-world
+returns-in_err-world c =
+    let p = err_from_is_err_and c.from_residual.result c.from_residual.ensures.1 in
+    let r = not_read c.args.net.now c.args.estimate.now c.args.buffer.now c.if-buffer-lt-REPORT.false c.in_err-world.ensures in
+    record { answer = rw (p.1, p.2) r.0; buffer = r.1 }
 
-pub check_read-requires : goal.check_read-requires
-check_read-requires c = record { well_formed = sound _ _ _ c.read_both-w.ensures c.if-number-ne0.false; in_bounds = c.if-buffer-lt-REPORT.false }
-
-pub shape_of-buffer : goal.shape_of-buffer
-shape_of-buffer c = c.check_read.ensures.buffer_len_unchanged
+pub check_read-requires-clause-well_formed : goal.check_read-requires-clause-well_formed
+check_read-requires-clause-well_formed c = sound _ _ _ c.in_ok-world.ensures
 
 pub returns : goal.returns
-returns c = let e = was_read _ _ _ _ c.if-buffer-lt-REPORT.false c.read_both-w.ensures c.if-number-ne0.false in record { answer = c.check_read.ensures.result_value ∙ ap (λ (r : Checked). r.answer) e; buffer = c.check_read.ensures.buffer_after ∙ ap (λ (r : Checked). r.buffer) e }
+returns c =
+    let e = was_read c.args.net.now c.args.estimate.now c.args.buffer.now c.if-buffer-lt-REPORT.false c.in_ok-world.ensures in
+    record { answer = c.check_read.ensures.verdict ∙ ap (λ (r : Checked). r.answer) e; buffer = c.check_read.ensures.buffer_after ∙ ap (λ (r : Checked). r.buffer) e }

@@ -1,33 +1,36 @@
-use mathlib.Core.Path.{refl, sym, ap, ◌∙◌}
-use mathlib.Core.List.{List, ◌++◌}
+use mathlib.Core.Path.{◌≡◌, refl, ◌∙◌}
+use mathlib.Core.List.{List}
 use Prim.Native.Nat.{ℕ}
-use lib.ListN.{drop}
+use native.Mathlib.Omega.{arith}
+use borrow.Author.Rules.{rules}
+use lib.ListN.{length, length-take}
 use Rattle.klaim.specs.Check.{written}
+use Rattle.klaim.specs.Reader.{World}
+use Rattle.verdict.specs.declared.Verdict.{Verdict}
+use Rattle.verdict.specs.declared.Verdict.TheVariants.{Accepted, BrokenTuple, BrokenLine}
 use Rattle.verdict.specs.Verdict.{verdict_view}
-use Rattle.checker.specs.Check.{answer_view}
 use Rattle.checker.proofs.Laws.{answer_by, buffer_by}
 use Rattle.checker.proofs.check_read.Goals as goal
 
-pub judged-requires : goal.judged-requires
-judged-requires c = c.requires.well_formed
+-- a broken rule writes nothing
+kept : (w : World) (buffer : List ℕ) (v : Verdict) → (v ≡ Accepted → ⊥) → buffer ≡ written w buffer (verdict_view v)
+unfolding verdict_view written
+kept w buffer Accepted h = absurd (h refl)
+kept w buffer (BrokenTuple i) h = refl
+kept w buffer (BrokenLine q) h = refl
 
-pub reported-requires : goal.reported-requires
-reported-requires c = c.requires.well_formed
+pub copy_from_slice-requires : goal.copy_from_slice-requires
+copy_from_slice-requires c = let l : length c.reported.result ≡ 1024 = search rules in omega (arith, c.requires.in_bounds, length-take 1024 c.args.buffer.now)
 
-pub write_report-requires : goal.write_report-requires
-write_report-requires c = c.requires.in_bounds
+pub returns-in-Accepted-clause-verdict : goal.returns-in-Accepted-clause-verdict
+returns-in-Accepted-clause-verdict c = answer_by _ _ _ c.judged-verdict.ensures
 
-pub shape_of-buffer : goal.shape_of-buffer
-shape_of-buffer c = c.write_report.ensures.buffer_len_unchanged
+pub returns-in-Accepted-clause-buffer_after : goal.returns-in-Accepted-clause-buffer_after
+unfolding verdict_view written
+returns-in-Accepted-clause-buffer_after c = rw (c.copy_from_slice.ensures.after, c.reported.ensures) (buffer_by _ _ _ c.in-Accepted.ensures)
 
-pub returns-in-Accepted : goal.returns-in-Accepted
-unfolding answer_view verdict_view written
-returns-in-Accepted c = let e = (sym (ap verdict_view c.in-Accepted.is) ∙ c.judged.ensures) in record { buffer_len_unchanged = c.write_report.ensures.buffer_len_unchanged; result_value = answer_by _ _ _ e; buffer_after = c.write_report.ensures.buffer_after ∙ ap (λ (r : List ℕ). r ++ drop 1024 c.args.buffer.now) c.reported.ensures ∙ buffer_by _ _ _ e }
-
-pub returns-in-BrokenTuple : goal.returns-in-BrokenTuple
-unfolding answer_view verdict_view written
-returns-in-BrokenTuple c = let e = (sym (ap verdict_view c.in-BrokenTuple.is) ∙ c.judged.ensures) in record { buffer_len_unchanged = refl; result_value = answer_by _ _ _ e; buffer_after = buffer_by _ _ _ e }
-
-pub returns-in-BrokenLine : goal.returns-in-BrokenLine
-unfolding answer_view verdict_view written
-returns-in-BrokenLine c = let e = (sym (ap verdict_view c.in-BrokenLine.is) ∙ c.judged.ensures) in record { buffer_len_unchanged = refl; result_value = answer_by _ _ _ e; buffer_after = buffer_by _ _ _ e }
+pub returns-in_default : goal.returns-in_default
+returns-in_default c = record {
+  verdict = answer_by _ _ _ c.judged-verdict.ensures;
+  buffer_after = kept _ c.args.buffer.now c.judged-verdict.result c.in_default.not-Accepted ∙ buffer_by _ _ _ c.judged-verdict.ensures;
+}

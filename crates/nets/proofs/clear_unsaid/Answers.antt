@@ -8,16 +8,16 @@ use Rattle.nets.specs.Defaults.{cleared}
 use Rattle.nets.proofs.clear_unsaid.Goals as goal
 
 pub loop-i-init : goal.loop-i-init
-loop-i-init c = (omega arith, c.requires, filled_none 0 _ _)
+loop-i-init c = filled_none 0 _ _
 
 pub loop-i-preserved : goal.loop-i-preserved
 loop-i-preserved c =
     let R = c.loop-i.invariant in
-    (omega arith, R.1, filled_more R.2 (omega (arith, R.1)) (ap (λ (b : ℕ). b % unsaid) (R.2.rest _ (omega arith))))
+    filled_more R (omega arith) (ap (λ (b : ℕ). b % unsaid) (R.rest _ (omega arith)))
 
 pub returns : goal.returns
 unfolding cleared
 returns c =
     let R = c.loop-i.invariant in
     let e : c.loop-i.i ≡ boxes_size = omega arith in
-    filled_all (rw e at R.2) R.1
+    filled_all (rw e at R) c.told-boxes

@@ -5,13 +5,13 @@ use Rattle.nets.proofs.Defaults.{owned_none, owned_more, owned_all}
 use Rattle.nets.proofs.put_own.Goals as goal
 
 pub loop-k-init : goal.loop-k-init
-loop-k-init c = (omega arith, c.requires, owned_none _)
+loop-k-init c = owned_none _
 
 pub loop-k-preserved : goal.loop-k-preserved
-loop-k-preserved c = let R = c.loop-k.invariant in (omega arith, R.1, owned_more R.2 (omega (arith, R.1)) c.own_rights.ensures)
+loop-k-preserved c = let R = c.loop-k.invariant in owned_more R (omega arith) c.own_rights.ensures
 
 pub returns : goal.returns
 returns c =
     let R = c.loop-k.invariant in
     let e : c.loop-k.k ≡ box_limit = omega arith in
-    owned_all (rw e at R.2) R.1
+    owned_all (rw e at R) c.told-boxes

@@ -1,19 +1,17 @@
-use mathlib.Core.Path.{◌≡◌, ◌∙◌}
+use mathlib.Core.Path.{◌∙◌}
+use Prim.Native.Nat.{◌+◌}
 use native.Mathlib.Omega.{arith}
+use borrow.Author.Rules.{rules}
 use Rattle.tables.specs.View.{lines_view}
+use Rattle.places.proofs.Places.{lines_put}
 use Rattle.renumber.proofs.Renumber.{moved_line, moved_none, moved_more}
 use Rattle.renumber.proofs.append_moved.Goals as goal
 
 pub loop-q-init : goal.loop-q-init
-loop-q-init c = (omega arith, c.requires.lines_len, moved_none c.args.n c.args.lines.now c.args.arrival.now)
+loop-q-init c = (c.told-lines, moved_none c.args.n c.args.lines.now c.args.arrival.now)
 
 pub loop-q-preserved : goal.loop-q-preserved
 loop-q-preserved c =
     let bs = c.args.arrival.now in
-    let line = moved_line c.args.n c.args.m bs c.loop-q.q c.requires.m_bound c.requires.arrival_value c.loop-q-test.true c.requires.arrival_len in
-    (omega arith, c.put_line.ensures.put.long ∙ c.loop-q.invariant.1, moved_more c.args.n c.loop-q.q (lines_view c.args.n c.args.lines.now) c.loop-q.lines _ bs _ c.loop-q.invariant.2 c.put_line.ensures.lines_after (rw c.moved-b.ensures line))
-
-pub returns : goal.returns
-returns c =
-    let e : c.loop-q.q ≡ c.args.m = omega arith in
-    record { lines_len_2 = c.loop-q.invariant.1; lines_after = rw e at c.loop-q.invariant.2 }
+    let line = moved_line c.args.n c.args.m bs c.loop-q.q c.requires.m_bound c.requires.arrival_value c.loop-q-test.true c.told-arrival in
+    (c.put_at.ensures.long ∙ c.loop-q.invariant.0, moved_more c.args.n c.loop-q.q (lines_view c.args.n c.args.lines.now) c.loop-q.lines _ bs c.moved.result c.loop-q.invariant.1 (lines_put (c.args.n + c.loop-q.q) c.put_at.ensures (omega arith) (search rules)) (rw c.moved.ensures line))

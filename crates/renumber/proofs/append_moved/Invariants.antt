@@ -1,13 +1,10 @@
 use mathlib.Core.Path.{◌≡◌}
 use mathlib.Core.List.{◌++◌, map}
-use Prim.Native.Nat.{◌+◌, ◌-◌, ◌≤◌}
+use Prim.Native.Nat.{◌+◌}
 use lib.ListN.{length}
 use Rattle.klaim.specs.Process.{move}
 use Rattle.tables.specs.View.{lines_view}
 use Rattle.renumber.proofs.append_moved.Given as goal
 
 abbrev pub invariant-loop-q : goal.invariant-loop-q
-invariant-loop-q l = (l.q ≤ l.m) × (length l.lines ≡ 2560) × (lines_view (l.n + l.q) l.lines ≡ lines_view l.n l.initial.lines ++ map (move l.n) (lines_view l.q l.arrival))
-
-abbrev pub decreases-loop-q : goal.decreases-loop-q
-decreases-loop-q l = l.m - l.q
+invariant-loop-q l = (length l.lines ≡ 2560) × (lines_view (l.n + l.q) l.lines ≡ lines_view l.n l.initial.lines ++ map (move l.n) (lines_view l.q l.arrival))

@@ -1,28 +1,25 @@
-use mathlib.Core.Path.{refl, ap, ◌∙◌}
-use mathlib.Core.Bool.{Bool}
-use Prim.Native.Nat.{ℕ}
+use mathlib.Core.Path.{◌≡◌, refl, ap, ◌∙◌}
+use mathlib.Core.Bool.{Bool, true, false, ◌||◌}
 use native.Mathlib.Omega.{arith}
 use lib.Dec.{eqb}
-use lib.ListN.{get_or, take}
-use Rattle.sets.specs.Lists.{either, any}
+use lib.ListN.{take, get_or}
+use Rattle.sets.specs.Lists.{any, either}
 use Rattle.repeats.proofs.Keys.{any_more}
 use Rattle.repeats.proofs.has_key.Goals as goal
 
-pub loop-i-init : goal.loop-i-init
+or_either : (a b : Bool) → (a || b) ≡ either a b
+unfolding either
+or_either true b = refl
+or_either false b = refl
+
+pub loop-key-init : goal.loop-key-init
 unfolding any
-loop-i-init c = (omega arith, refl)
+loop-key-init c = refl
 
-pub loop-i-smaller : goal.loop-i-smaller
-loop-i-smaller c = omega arith
-
-pub loop-i-preserved : goal.loop-i-preserved
-loop-i-preserved c =
-    let at = c.loop-i in
-    let ar = c.args in
-    (omega arith, c.or_same-found.ensures ∙ ap (λ (b : Bool). either b (eqb (get_or ar.keys.now at.i 0) ar.k)) at.invariant.1 ∙ any_more (λ x. eqb x ar.k) ar.keys.now at.i (omega arith))
-
-pub returns : goal.returns
-returns c =
-    let at = c.loop-i in
-    let ar = c.args in
-    at.invariant.1 ∙ ap (λ (m : ℕ). any (λ x. eqb x ar.k) (take m ar.keys.now)) {x = at.i} {y = ar.n} (omega arith)
+pub loop-key-preserved : goal.loop-key-preserved
+loop-key-preserved c =
+    let first = take c.args.n c.args.keys.now in
+    let at = c.loop-key in
+    or_either at.found (eqb (get_or first at.key-index 0) c.args.k)
+    ∙ ap (λ (b : Bool). either b (eqb (get_or first at.key-index 0) c.args.k)) at.invariant
+    ∙ any_more (λ x. eqb x c.args.k) first at.key-index (omega arith)

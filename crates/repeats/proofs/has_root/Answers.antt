@@ -7,28 +7,25 @@ use mathlib.Core.Path.{◌≡◌, refl, sym, ◌∙◌}
 use Rattle.repeats.proofs.has_root.Goals as goal
 
 pub loop-i-init : goal.loop-i-init
-loop-i-init c = (omega arith, refl)
+loop-i-init c = refl
 
 pub returns-then-root_is : goal.returns-then-root_is
 unfolding roots_view
 returns-then-root_is c =
     let at = c.loop-i in
     let ar = c.args in
-    sym (at.invariant.1 ∙ any_yes (root_same ar.s ar.q) ar.n (root_at ar.roots.now) at.i (omega arith) (sym c.root_is.ensures ∙ c.if-root_is.true))
-
-pub loop-i-smaller : goal.loop-i-smaller
-loop-i-smaller c = omega arith
+    sym (at.invariant ∙ any_yes (root_same ar.s ar.q) ar.n (root_at ar.roots.now) at.i (omega arith) (sym c.root_is.ensures ∙ c.if-root_is.true))
 
 pub loop-i-preserved : goal.loop-i-preserved
 loop-i-preserved c =
     let at = c.loop-i in
     let ar = c.args in
     let e : suc at.i ≡ at.i + 1 = omega arith in
-    (omega arith, at.invariant.1 ∙ any_no (root_same ar.s ar.q) ar.n (root_at ar.roots.now) at.i (at.i + 1) (omega arith) e (sym c.root_is.ensures ∙ c.if-root_is.false))
+    at.invariant ∙ any_no (root_same ar.s ar.q) ar.n (root_at ar.roots.now) at.i (at.i + 1) (omega arith) e (sym c.root_is.ensures ∙ c.if-root_is.false)
 
 pub returns : goal.returns
 unfolding roots_view
 returns c =
     let at = c.loop-i in
     let ar = c.args in
-    sym (at.invariant.1 ∙ any_end (root_same ar.s ar.q) ar.n (root_at ar.roots.now) at.i (omega arith))
+    sym (at.invariant ∙ any_end (root_same ar.s ar.q) ar.n (root_at ar.roots.now) at.i (omega arith))

@@ -6,8 +6,8 @@ use Rattle.repeats.proofs.key_step.Goals as goal
 
 pub returns-then-i-n : goal.returns-then-i-n
 unfolding key_step
-returns-then-i-n c = rw (lt-ltb _ _ c.if-i-n.true) (refl, omega arith)
+returns-then-i-n c = rw (lt-ltb _ _ c.if-i-n.true, c.from.ensures) (refl, omega arith)
 
-pub returns : goal.returns
+pub returns-else-i-n : goal.returns-else-i-n
 unfolding key_step
-returns c = rw (le-ltb _ _ c.if-i-n.false) (refl, omega arith)
+returns-else-i-n c = rw (le-ltb _ _ c.if-i-n.false) (refl, omega arith)

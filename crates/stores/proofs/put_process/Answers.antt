@@ -1,5 +1,7 @@
-use mathlib.Core.Path.{◌∙◌}
+use native.Mathlib.Omega.{arith}
+use borrow.Author.Rules.{rules}
+use Rattle.places.proofs.Places.{lines_put}
 use Rattle.stores.proofs.put_process.Goals as goal
 
 pub returns : goal.returns
-returns c = record { lines_len_2 = c.put_line.ensures.put.long ∙ c.requires.lines_len; lines_after = rw (← c.line_bytes-bytes.ensures) c.put_line.ensures.lines_after }
+returns c = rw (← c.line_bytes-bytes.ensures) (lines_put c.args.q c.put_at.ensures (omega arith) (search rules))

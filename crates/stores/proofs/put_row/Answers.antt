@@ -1,5 +1,7 @@
-use mathlib.Core.Path.{◌∙◌}
+use native.Mathlib.Omega.{arith}
+use borrow.Author.Rules.{rules}
+use Rattle.places.proofs.Places.{rows_put}
 use Rattle.stores.proofs.put_row.Goals as goal
 
 pub returns : goal.returns
-returns c = record { rows_len_2 = c.put_tuple.ensures.put.long ∙ c.requires.rows_len; rows_after = rw (← c.tuple_bytes-bytes.ensures) c.put_tuple.ensures.rows_after }
+returns c = rw (← c.tuple_bytes-bytes.ensures) (rows_put c.args.k c.put_at.ensures (omega arith) (search rules))

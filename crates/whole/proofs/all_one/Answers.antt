@@ -9,25 +9,25 @@ use Rattle.sets.proofs.Shared.{all_yes, all_no, all_end}
 use Rattle.whole.proofs.all_one.Goals as goal
 
 pub loop-q-init : goal.loop-q-init
-loop-q-init c = (omega arith, refl)
+loop-q-init c = refl
 
 pub loop-q-preserved : goal.loop-q-preserved
 loop-q-preserved c =
     let at = c.loop-q in
     let ar = c.args in
     let e : suc at.q ≡ at.q + 1 = omega arith in
-    (omega arith, at.invariant.1 ∙ all_yes (λ q. eqb (get_or ar.counts.now q 0) 1) ar.n (λ j. j) at.q (at.q + 1) (omega arith) e (eq-eqb _ 1 c.if-counts-q-eq1.true))
+    at.invariant ∙ all_yes (λ q. eqb (get_or ar.counts.now q 0) 1) ar.n (λ j. j) at.q (at.q + 1) (omega arith) e (eq-eqb _ 1 c.if-counts-q-ne1.false)
 
-pub returns-else-counts-q-eq1 : goal.returns-else-counts-q-eq1
+pub returns-then-counts-q-ne1 : goal.returns-then-counts-q-ne1
 unfolding below
-returns-else-counts-q-eq1 c =
+returns-then-counts-q-ne1 c =
     let at = c.loop-q in
     let ar = c.args in
-    sym (at.invariant.1 ∙ all_no (λ q. eqb (get_or ar.counts.now q 0) 1) ar.n (λ j. j) at.q (omega arith) (ne_eqb _ 1 c.if-counts-q-eq1.false))
+    sym (at.invariant ∙ all_no (λ q. eqb (get_or ar.counts.now q 0) 1) ar.n (λ j. j) at.q (omega arith) (ne_eqb _ 1 c.if-counts-q-ne1.true))
 
 pub returns : goal.returns
 unfolding below
 returns c =
     let at = c.loop-q in
     let ar = c.args in
-    sym (at.invariant.1 ∙ all_end (λ q. eqb (get_or ar.counts.now q 0) 1) ar.n (λ j. j) at.q (omega arith))
+    sym (at.invariant ∙ all_end (λ q. eqb (get_or ar.counts.now q 0) 1) ar.n (λ j. j) at.q (omega arith))

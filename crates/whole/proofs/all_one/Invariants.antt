@@ -1,12 +1,8 @@
 use mathlib.Core.Path.{◌≡◌}
-use Prim.Native.Nat.{◌-◌, ◌≤◌}
 use lib.Dec.{eqb}
 use lib.ListN.{drop, get_or}
 use Rattle.sets.specs.Lists.{all, table}
 use Rattle.whole.proofs.all_one.Given as goal
 
 abbrev pub invariant-loop-q : goal.invariant-loop-q
-invariant-loop-q l = (l.q ≤ l.n) × (all (λ q. eqb (get_or l.counts q 0) 1) (table l.n (λ j. j)) ≡ all (λ q. eqb (get_or l.counts q 0) 1) (drop l.q (table l.n (λ j. j))))
-
-abbrev pub decreases-loop-q : goal.decreases-loop-q
-decreases-loop-q l = l.n - l.q
+invariant-loop-q l = all (λ q. eqb (get_or l.counts q 0) 1) (table l.n (λ j. j)) ≡ all (λ q. eqb (get_or l.counts q 0) 1) (drop l.q (table l.n (λ j. j)))

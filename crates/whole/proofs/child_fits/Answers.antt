@@ -1,11 +1,12 @@
-use mathlib.Core.Path.{◌∙◌}
-use borrow.Author.Tests.{le-ltb}
 use native.Mathlib.Omega.{arith}
-use Rattle.whole.proofs.Order.{fit_yes, fit_no}
+use borrow.Author.Tests.{lt-ltb, le-ltb}
+use Rattle.sets.specs.Lists.{◌&◌}
 use Rattle.whole.proofs.child_fits.Goals as goal
 
-pub returns-then-q-c : goal.returns-then-q-c
-returns-then-q-c c = fit_yes c.args.q c.args.n c.wide-c.ensures (omega arith)
+pub returns-then-q-child : goal.returns-then-q-child
+unfolding ◌&◌
+returns-then-q-child c = rw (c.from-child.ensures, lt-ltb c.args.q c.args.child (omega (arith, c.from-child.ensures)))
 
-pub returns-else-q-c : goal.returns-else-q-c
-returns-else-q-c c = le-ltb c.args.q c.wide-c.result (omega arith) ∙ fit_no c.args.q c.args.n c.wide-c.ensures (omega arith)
+pub returns-else-q-child : goal.returns-else-q-child
+unfolding ◌&◌
+returns-else-q-child c = rw (c.from-child.ensures, le-ltb c.args.q c.args.child (omega (arith, c.from-child.ensures)))

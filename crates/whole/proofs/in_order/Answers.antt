@@ -8,23 +8,23 @@ use Rattle.sets.proofs.Shared.{all_yes, all_no, all_end}
 use Rattle.whole.proofs.in_order.Goals as goal
 
 pub loop-q-init : goal.loop-q-init
-loop-q-init c = (omega arith, refl)
+loop-q-init c = refl
 
 pub loop-q-preserved : goal.loop-q-preserved
 loop-q-preserved c =
     let at = c.loop-q in
     let ar = c.args in
     let e : suc at.q ≡ at.q + 1 = omega arith in
-    (omega arith, at.invariant.1 ∙ all_yes (fits ar.lines.now ar.n) ar.n (λ j. j) at.q (at.q + 1) (omega arith) e (sym (c.children_fit.ensures ∙ ap (all (λ k. ltb at.q k & ltb k ar.n)) c.children_at.ensures) ∙ c.if-children_fit.true))
+    at.invariant ∙ all_yes (fits ar.lines.now ar.n) ar.n (λ j. j) at.q (at.q + 1) (omega arith) e (sym (c.children_fit.ensures ∙ ap (all (λ k. ltb at.q k & ltb k ar.n)) c.children_at.ensures) ∙ c.if-not-children_fit.false)
 
-pub returns-else-children_fit : goal.returns-else-children_fit
-returns-else-children_fit c =
+pub returns-then-not-children_fit : goal.returns-then-not-children_fit
+returns-then-not-children_fit c =
     let at = c.loop-q in
     let ar = c.args in
-    sym (order_all ar.n ar.lines.now ∙ at.invariant.1 ∙ all_no (fits ar.lines.now ar.n) ar.n (λ j. j) at.q (omega arith) (sym (c.children_fit.ensures ∙ ap (all (λ k. ltb at.q k & ltb k ar.n)) c.children_at.ensures) ∙ c.if-children_fit.false))
+    sym (order_all ar.n ar.lines.now ∙ at.invariant ∙ all_no (fits ar.lines.now ar.n) ar.n (λ j. j) at.q (omega arith) (sym (c.children_fit.ensures ∙ ap (all (λ k. ltb at.q k & ltb k ar.n)) c.children_at.ensures) ∙ c.if-not-children_fit.true))
 
 pub returns : goal.returns
 returns c =
     let at = c.loop-q in
     let ar = c.args in
-    sym (order_all ar.n ar.lines.now ∙ at.invariant.1 ∙ all_end (fits ar.lines.now ar.n) ar.n (λ j. j) at.q (omega arith))
+    sym (order_all ar.n ar.lines.now ∙ at.invariant ∙ all_end (fits ar.lines.now ar.n) ar.n (λ j. j) at.q (omega arith))

@@ -1,5 +1,5 @@
 use mathlib.Core.List.{List}
-use Prim.Native.Nat.{ℕ, ◌-◌, ◌≤◌}
+use Prim.Native.Nat.{ℕ}
 use Rattle.sets.specs.Lists.{concat, table, ◌⧺◌}
 use Rattle.klaim.specs.Process.{children}
 use Rattle.tables.specs.View.{line_of}
@@ -7,7 +7,4 @@ use Rattle.whole.specs.Counted.{Counted}
 use Rattle.whole.proofs.named_lines.Given as goal
 
 abbrev pub invariant-loop-q : goal.invariant-loop-q
-invariant-loop-q l = (l.q ≤ l.n) × ((xs : List ℕ) → Counted xs l.initial.counts → Counted (xs ⧺ concat children (table l.q (line_of l.lines))) l.counts)
-
-abbrev pub decreases-loop-q : goal.decreases-loop-q
-decreases-loop-q l = l.n - l.q
+invariant-loop-q l = (xs : List ℕ) → Counted xs l.initial.counts → Counted (xs ⧺ concat children (table l.q (line_of l.lines))) l.counts

@@ -6,17 +6,17 @@ use Rattle.whole.proofs.Counts.{none_named, roots_none, roots_more}
 use Rattle.whole.proofs.named_roots.Goals as goal
 
 pub loop-i-init : goal.loop-i-init
-loop-i-init c = (omega arith, roots_none c.args.roots.now none_named)
+loop-i-init c = roots_none c.args.roots.now none_named
 
 pub loop-i-preserved : goal.loop-i-preserved
 loop-i-preserved c =
     let at = c.loop-i in
     let rs = c.args.roots.now in
     let e : suc at.i ≡ at.i + 1 = omega arith in
-    (omega arith, roots_more rs at.i (at.i + 1) e (c.named.ensures _ at.invariant.1))
+    roots_more rs at.i (at.i + 1) e (c.named.ensures _ at.invariant)
 
 pub returns : goal.returns
 unfolding roots_view
 returns c =
     let e : c.loop-i.i ≡ c.args.m = omega arith in
-    rw e at c.loop-i.invariant.1
+    rw e at c.loop-i.invariant

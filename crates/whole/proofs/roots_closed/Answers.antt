@@ -7,12 +7,12 @@ use Rattle.sets.proofs.Shared.{all_yes, all_no, all_end}
 use Rattle.whole.proofs.roots_closed.Goals as goal
 
 pub loop-i-init : goal.loop-i-init
-loop-i-init c = (omega arith, refl)
+loop-i-init c = refl
 
 pub closed-requires : goal.closed-requires
 closed-requires c =
     let w = c.requires in
-    (root_form w c.loop-i.i (omega arith), w.long)
+    root_form w c.loop-i.i (omega arith)
 
 pub loop-i-preserved : goal.loop-i-preserved
 unfolding root_at
@@ -20,18 +20,18 @@ loop-i-preserved c =
     let at = c.loop-i in
     let ar = c.args in
     let e : suc at.i ≡ at.i + 1 = omega arith in
-    (omega arith, at.invariant.1 ∙ all_yes (closed_root ar.n ar.lines.now) ar.m (root_at ar.roots.now) at.i (at.i + 1) (omega arith) e (sym c.closed.ensures ∙ c.if-closed.true))
+    at.invariant ∙ all_yes (closed_root ar.n ar.lines.now) ar.m (root_at ar.roots.now) at.i (at.i + 1) (omega arith) e (sym c.closed.ensures ∙ c.if-not-closed.false)
 
-pub returns-else-closed : goal.returns-else-closed
+pub returns-then-not-closed : goal.returns-then-not-closed
 unfolding root_at
-returns-else-closed c =
+returns-then-not-closed c =
     let at = c.loop-i in
     let ar = c.args in
-    sym (closed_all ar.n ar.lines.now ar.m ar.roots.now ∙ at.invariant.1 ∙ all_no (closed_root ar.n ar.lines.now) ar.m (root_at ar.roots.now) at.i (omega arith) (sym c.closed.ensures ∙ c.if-closed.false))
+    sym (closed_all ar.n ar.lines.now ar.m ar.roots.now ∙ at.invariant ∙ all_no (closed_root ar.n ar.lines.now) ar.m (root_at ar.roots.now) at.i (omega arith) (sym c.closed.ensures ∙ c.if-not-closed.true))
 
 pub returns : goal.returns
 unfolding root_at
 returns c =
     let at = c.loop-i in
     let ar = c.args in
-    sym (closed_all ar.n ar.lines.now ar.m ar.roots.now ∙ at.invariant.1 ∙ all_end (closed_root ar.n ar.lines.now) ar.m (root_at ar.roots.now) at.i (omega arith))
+    sym (closed_all ar.n ar.lines.now ar.m ar.roots.now ∙ at.invariant ∙ all_end (closed_root ar.n ar.lines.now) ar.m (root_at ar.roots.now) at.i (omega arith))

@@ -1,5 +1,4 @@
 use mathlib.Core.Path.{◌≡◌}
-use Prim.Native.Nat.{◌≤◌, ◌-◌}
 use lib.ListN.{drop}
 use Rattle.sets.specs.Lists.{all, table}
 use Rattle.tables.specs.View.{root_at}
@@ -7,7 +6,4 @@ use Rattle.whole.proofs.Order.{closed_root}
 use Rattle.whole.proofs.roots_closed.Given as goal
 
 abbrev pub invariant-loop-i : goal.invariant-loop-i
-invariant-loop-i l = (l.i ≤ l.m) × (all (closed_root l.n l.lines) (table l.m (root_at l.roots)) ≡ all (closed_root l.n l.lines) (drop l.i (table l.m (root_at l.roots))))
-
-abbrev pub decreases-loop-i : goal.decreases-loop-i
-decreases-loop-i l = l.m - l.i
+invariant-loop-i l = all (closed_root l.n l.lines) (table l.m (root_at l.roots)) ≡ all (closed_root l.n l.lines) (drop l.i (table l.m (root_at l.roots)))

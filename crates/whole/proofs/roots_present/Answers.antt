@@ -10,7 +10,7 @@ use Rattle.sets.proofs.Shared.{all_yes, all_no, all_end}
 use Rattle.whole.proofs.roots_present.Goals as goal
 
 pub loop-i-init : goal.loop-i-init
-loop-i-init c = (omega arith, refl)
+loop-i-init c = refl
 
 pub loop-i-preserved : goal.loop-i-preserved
 unfolding root_at
@@ -18,18 +18,18 @@ loop-i-preserved c =
     let at = c.loop-i in
     let ar = c.args in
     let e : suc at.i ≡ at.i + 1 = omega arith in
-    (omega arith, at.invariant.1 ∙ all_yes (λ (x : Root). ltb x.line ar.n) ar.m (root_at ar.roots.now) at.i (at.i + 1) (omega arith) e (lt-ltb _ ar.n (omega (arith, c.wide.ensures))))
+    at.invariant ∙ all_yes (λ (x : Root). ltb x.line ar.n) ar.m (root_at ar.roots.now) at.i (at.i + 1) (omega arith) e (lt-ltb _ ar.n (omega (arith, c.from.ensures)))
 
-pub returns-else-wide-n : goal.returns-else-wide-n
+pub returns-then-n-from : goal.returns-then-n-from
 unfolding root_at
-returns-else-wide-n c =
+returns-then-n-from c =
     let at = c.loop-i in
     let ar = c.args in
-    sym (present_all ar.n ar.m ar.roots.now ∙ at.invariant.1 ∙ all_no (λ (x : Root). ltb x.line ar.n) ar.m (root_at ar.roots.now) at.i (omega arith) (le-ltb _ ar.n (omega (arith, c.wide.ensures))))
+    sym (present_all ar.n ar.m ar.roots.now ∙ at.invariant ∙ all_no (λ (x : Root). ltb x.line ar.n) ar.m (root_at ar.roots.now) at.i (omega arith) (le-ltb _ ar.n (omega (arith, c.from.ensures))))
 
 pub returns : goal.returns
 unfolding root_at
 returns c =
     let at = c.loop-i in
     let ar = c.args in
-    sym (present_all ar.n ar.m ar.roots.now ∙ at.invariant.1 ∙ all_end (λ (x : Root). ltb x.line ar.n) ar.m (root_at ar.roots.now) at.i (omega arith))
+    sym (present_all ar.n ar.m ar.roots.now ∙ at.invariant ∙ all_end (λ (x : Root). ltb x.line ar.n) ar.m (root_at ar.roots.now) at.i (omega arith))

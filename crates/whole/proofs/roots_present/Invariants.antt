@@ -1,5 +1,4 @@
 use mathlib.Core.Path.{◌≡◌}
-use Prim.Native.Nat.{◌≤◌, ◌-◌}
 use lib.Dec.{ltb}
 use lib.ListN.{drop}
 use Rattle.sets.specs.Lists.{all, table}
@@ -8,7 +7,4 @@ use Rattle.tables.specs.View.{root_at}
 use Rattle.whole.proofs.roots_present.Given as goal
 
 abbrev pub invariant-loop-i : goal.invariant-loop-i
-invariant-loop-i l = (l.i ≤ l.m) × (all (λ (x : Root). ltb x.line l.n) (table l.m (root_at l.roots)) ≡ all (λ (x : Root). ltb x.line l.n) (drop l.i (table l.m (root_at l.roots))))
-
-abbrev pub decreases-loop-i : goal.decreases-loop-i
-decreases-loop-i l = l.m - l.i
+invariant-loop-i l = all (λ (x : Root). ltb x.line l.n) (table l.m (root_at l.roots)) ≡ all (λ (x : Root). ltb x.line l.n) (drop l.i (table l.m (root_at l.roots)))

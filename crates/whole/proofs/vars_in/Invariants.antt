@@ -1,13 +1,9 @@
 use mathlib.Core.Path.{◌≡◌}
-use Prim.Native.Nat.{◌≤◌}
-use lib.ListN.{take, drop}
+use lib.ListN.{take}
 use Rattle.sets.specs.Bits.{joins}
 use Rattle.tables.specs.View.{field_bytes}
 use Rattle.whole.specs.Free.{var_in}
 use Rattle.whole.proofs.vars_in.Given as goal
 
 abbrev pub invariant-loop-j : goal.invariant-loop-j
-invariant-loop-j l = (l.j ≤ l.count) × (l.r ≡ joins (var_in l.sort) (drop l.j (take l.count (field_bytes l.lines l.q))))
-
-abbrev pub decreases-loop-j : goal.decreases-loop-j
-decreases-loop-j l = l.j
+invariant-loop-j l = l.vars ≡ joins (var_in l.sort) (take l.j (field_bytes l.lines l.q))

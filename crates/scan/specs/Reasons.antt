@@ -1,0 +1,36 @@
+-- Why a row is refused, if it is.
+-- Assumes nothing.
+use Rattle.std.specs.Prelude.{Bool, not, cond, ℕ, Result, Ok, Err}
+use Rattle.sets.specs.Lists.{either}
+use Rattle.klaim.specs.Process.{template, clash}
+use Rattle.klaim.specs.Rows.{Row}
+use Rattle.klaim.specs.Reader.{in_limits, absent, Judged, bad, good}
+use Rattle.klaim.specs.Refusals.{number_of}
+use Rattle.klaim.specs.declared.Reason.{Reason}
+use Rattle.klaim.specs.declared.Reason.TheVariants.{Limit, Place, Site, Clash}
+
+-- let through, or refused
+abbrev pub Judging : Type 0
+Judging = Result (Unit {0}) Reason
+
+-- 2, and of 3 all but repeats
+abbrev pub limited_of : Bool → Bool → Bool → Judging
+limited_of low full placed = cond (either (not low) full) (Err Limit) (cond placed (Ok tt) (Err Place))
+
+-- the same of a row
+abbrev pub early_of : Row → Bool → Bool → Judging
+early_of r full placed = limited_of (in_limits r) full placed
+
+-- 4 and 7
+abbrev pub late_of : ℕ → Row → Judging
+late_of n r = cond (absent n r) (Err Site) (cond (clash (template r.process)) (Err Clash) (Ok tt))
+
+-- in their order, with repeats
+abbrev pub judging_of : Judging → Bool → Judging → Judging
+judging_of (Ok x) repeated late = cond repeated (Err Place) late
+judging_of (Err why) repeated late = Err why
+
+-- what it says of a row
+abbrev pub judged_by : Judging → Row → Judged
+judged_by (Ok x) r = good r
+judged_by (Err why) r = bad (number_of why)
