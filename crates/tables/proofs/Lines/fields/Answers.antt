@@ -7,7 +7,7 @@ use lib.Seq.{get_or-drop}
 use Rattle.sets.proofs.FromFn.{from_fn_table}
 use Rattle.sets.proofs.Tables.{list_table, same_table}
 use Rattle.tables.specs.View.{field_bytes}
-use Rattle.tables.proofs.LineTable.fields.Goals as goal
+use Rattle.tables.proofs.Lines.fields.Goals as goal
 
 pub returns : goal.returns
 unfolding field_bytes

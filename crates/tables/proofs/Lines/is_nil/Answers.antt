@@ -1,6 +1,6 @@
 use native.Mathlib.Omega.{arith}
 use Rattle.tables.proofs.LineTable.{nil_test, nil_past}
-use Rattle.tables.proofs.LineTable.is_nil.Goals as goal
+use Rattle.tables.proofs.Lines.is_nil.Goals as goal
 
 pub returns-then-self-at : goal.returns-then-self-at
 returns-then-self-at c = let ar = c.args in nil_past ar.self.now.count ar.self.now.bytes ar.q (omega arith)
