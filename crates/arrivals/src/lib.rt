@@ -4,14 +4,14 @@
 ghost use Rattle.std.specs.Prelude.{◌≡◌, List, [], ◌∷◌, ◌++◌, ℕ, ◌≤◌, eqb, OnOk};
 ghost use Rattle.klaim.specs.Rows as Spec;
 ghost use Rattle.klaim.specs.Rows.{group_q};
-ghost use Rattle.klaim.specs.Reader.{Text, an_arrival, judge, whole, numbers_of, lines_of, read_arrival};
+ghost use Rattle.klaim.specs.Reader.{Text, an_arrival, judge, whole, numbers_of, lines_of as lines_in, read_arrival};
 ghost use Rattle.klaim.specs.Refusals.{answer_of};
 ghost use Rattle.std.proofs.Math.Option.{some};
 ghost use Rattle.forms.specs.Forms.{group_number, row_data};
 ghost use Rattle.scan.specs.Reasons.{judged_by};
 ghost use Rattle.scan.specs.Tallies.{counted_of};
 ghost use Rattle.arrivals.specs.Rows.{ArrivalTally, ArrivalHolds, Passed, full_of};
-ghost use Rattle.arrivals.specs.Read.{arrival_view};
+ghost use Rattle.tables.specs.View.{lines_of};
 
 mod reading;
 
@@ -19,14 +19,7 @@ use forms::{Group, Row};
 use klaim::{Reason, Refusal};
 use reading::ArrivalReader;
 use scan::{Reader, Tally};
-use tables::LINES;
-
-// The lines of an arrival.
-#[derive(Clone, Copy)]
-pub struct Arrival {
-    pub lines: [u8; 2560],
-    pub count: usize,
-}
+use tables::{LINES, Lines};
 
 // Whether a group is that of an arrival's rows.
 fn is_own(group: Group) -> bool
@@ -77,14 +70,14 @@ impl ArrivalReader {
         }
     }
 
-    // The arrival, or why the text as a whole is refused. Line 0 is the root, as a root of zeros says.
-    fn finish(&self) -> Result<Arrival, Refusal>
-        ensures { (t : Text) (rows : List Spec.Row) → ArrivalHolds t rows self.now → answer_of arrival_view result ≡ whole (numbers_of rows) (lines_of rows) (0 ∷ []) (lines_of rows) }
+    // The lines of the arrival, or why the text as a whole is refused. Line 0 is the root, as a root of zeros says.
+    fn finish(&self) -> Result<Lines, Refusal>
+        ensures { (t : Text) (rows : List Spec.Row) → ArrivalHolds t rows self.now → answer_of lines_of result ≡ whole (numbers_of rows) (lines_in rows) (0 ∷ []) (lines_in rows) }
     {
         let root = [0u8; 128];
         whole::whole(self.tally.turn, &self.lines, self.tally.lines, &root, 1)?;
-        Ok(Arrival {
-            lines: self.lines,
+        Ok(Lines {
+            bytes: self.lines,
             count: self.tally.lines,
         })
     }
@@ -102,8 +95,8 @@ impl Reader for ArrivalReader {
 }
 
 // An arrival from its bytes, among n sites and behind d lines. From 256 lines on there is no room.
-pub fn read_arrival(n: u8, d: usize, s: &[u8]) -> Result<Arrival, Refusal>
-    ensures { answer_of arrival_view result ≡ read_arrival n d s.now }
+pub fn read_arrival(n: u8, d: usize, s: &[u8]) -> Result<Lines, Refusal>
+    ensures { answer_of lines_of result ≡ read_arrival n d s.now }
 {
     let mut reader = ArrivalReader::new(n, d.min(LINES));
     scan::read(&mut reader, s)?;

@@ -28,6 +28,6 @@ nothing_held n r b h t = record {
   counts = record { kept = done; owned = done; order = λ x. rw t (last_none x); size_is = rw t };
 }
 
-pub estimate_is : {t : Text} {rows : List Row} {r : EstimateReader} → EstimateHolds t rows r → estimate_view (record { binds = r.binds; stand = r.stand; nstand = r.tally.tuples; hold = r.hold }) ≡ estimate_of rows
-unfolding estimate_view estimate_of
+pub estimate_is : {t : Text} {rows : List Row} {r : EstimateReader} → EstimateHolds t rows r → estimate_view (record { binds = r.binds; stand = record { bytes = r.stand; count = r.tally.tuples }; hold = r.hold }) ≡ estimate_of rows
+unfolding estimate_of
 estimate_is H = rw (H.tables.binds_is, H.tables.stand_is, H.tables.hold_is)

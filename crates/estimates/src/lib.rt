@@ -19,7 +19,7 @@ use forms::{Group, Row};
 use klaim::{Reason, Refusal};
 use reading::EstimateReader;
 use scan::{Reader, Tally};
-use tables::{Estimate, TUPLES};
+use tables::{Estimate, TUPLES, Tuples};
 
 // Whether a group is that of the tuples, and whether it is one of an estimate's.
 fn is_tuples(group: Group) -> bool
@@ -113,8 +113,10 @@ impl EstimateReader {
     {
         Estimate {
             binds: self.binds,
-            stand: self.stand,
-            nstand: self.tally.tuples,
+            stand: Tuples {
+                bytes: self.stand,
+                count: self.tally.tuples,
+            },
             hold: self.hold,
         }
     }

@@ -29,17 +29,14 @@ read_off r = record {
   size = r.tally.size;
   homes = r.homes;
   boxes = cleared (with_own r.boxes);
-  tuples = r.tuples;
-  ntuples = r.tally.tuples;
-  roots = r.roots;
-  nroots = r.tally.roots;
-  lines = r.lines;
-  nlines = r.tally.lines;
+  tuples = record { bytes = r.tuples; count = r.tally.tuples };
+  roots = record { bytes = r.roots; count = r.tally.roots };
+  lines = record { bytes = r.lines; count = r.tally.lines };
 }
 
 module _ {rows : List Row} {r : NetReader} (H : NetHolds a_net rows r) where
   tables_say : net_view (read_off r) ≡ net_of rows
-  unfolding net_view net_of
+  unfolding net_of
   tables_say = rw (sym H.counts.size_is, H.tables.homes_is, ap (λ (t : List ℕ). cleared (with_own t)) H.tables.boxes_is ∙ defaults_put H.counts.kept, H.tables.tuples_is, H.tables.roots_is, H.tables.lines_is)
 
   lines_say : whole_of r.tally.turn (lines_view r.tally.lines r.lines) (map (λ x. x.line) (roots_view r.tally.roots r.roots)) ≡ whole_of r.tally.turn (lines_of rows) (map (λ x. x.line) (net_of rows).roots)

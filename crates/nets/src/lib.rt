@@ -21,7 +21,7 @@ use klaim::{Reason, Refusal};
 use reading::NetReader;
 use scan::{Reader, Tally};
 use sets::EVERY;
-use tables::{BOX, BOXES, LINES, Net, OWN, SANDBOXES, THREADS, TUPLES};
+use tables::{BOX, BOXES, LINES, Lines, Net, OWN, Roots, SANDBOXES, THREADS, TUPLES, Tuples};
 use text::UNSAID;
 
 // Whether a group is that of the first row of a net, and whether it is one of a net's.
@@ -144,12 +144,18 @@ impl NetReader {
             size: tally.size as u8,
             homes: self.homes,
             boxes,
-            tuples: self.tuples,
-            ntuples: tally.tuples,
-            roots: self.roots,
-            nroots: tally.roots,
-            lines: self.lines,
-            nlines: tally.lines,
+            tuples: Tuples {
+                bytes: self.tuples,
+                count: tally.tuples,
+            },
+            roots: Roots {
+                bytes: self.roots,
+                count: tally.roots,
+            },
+            lines: Lines {
+                bytes: self.lines,
+                count: tally.lines,
+            },
         })
     }
 }

@@ -3,7 +3,6 @@ use Rattle.std.proofs.lemmas.Result.{err_from_is_err_and}
 use Rattle.tables.specs.View.{lines_view}
 use Rattle.scan.specs.Reasons.{Judging}
 use Rattle.whole.specs.Reasons.{whole_answer}
-use Rattle.arrivals.specs.Read.{arrival_view}
 use Rattle.arrivals.proofs.Whole.{arrival_is}
 use Rattle.arrivals.proofs.reading.ArrivalReader.finish.Goals as goal
 
@@ -14,7 +13,6 @@ returns-in_err-whole c = λ t rows H.
     rw (p.1, p.2) (ap (λ (j : Judging). whole_answer j (lines_view r.tally.lines r.lines)) (sym c.in_err-whole.was ∙ c.whole.ensures) ∙ arrival_is H)
 
 pub returns : goal.returns
-unfolding arrival_view
 returns c = λ t rows H.
     let r = c.args.self.now in
     ap (λ (j : Judging). whole_answer j (lines_view r.tally.lines r.lines)) (sym c.in_ok-whole.was ∙ c.whole.ensures) ∙ arrival_is H
