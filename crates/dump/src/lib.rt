@@ -9,7 +9,7 @@ use klaim::Site;
 use state::State;
 use std::io;
 use std::io::Write;
-use threads::Thread;
+use threads::{Bindings, Thread};
 
 // The hexadecimal digits.
 const DIGITS: [u8; 16] = *b"0123456789abcdef";
@@ -48,13 +48,13 @@ fn put_binding<const N: usize>(row: &mut Row<N>, first: bool, u: usize, site: Si
 }
 
 // The variables that are bound, rising, or `-`.
-fn put_bindings<const N: usize>(row: &mut Row<N>, thread: &Thread)
+fn put_bindings<const N: usize>(row: &mut Row<N>, bindings: &Bindings)
     requires { row.old.end + 768 ≤ N }
     ensures { (row.old.end ≤ row.new.end) × (row.new.end ≤ row.old.end + 768) }
 {
     let from = row.len();
-    for (u, site) in thread.bindings.iter().enumerate() {
-        if sets::has_site(thread.bound, u as u8) {
+    for (u, bound) in bindings.iter().enumerate() {
+        if let Some(site) = bound {
             put_binding(row, row.len() == from, u, *site);
         }
     }
@@ -73,7 +73,7 @@ fn say_thread<W: Write>(output: &mut W, thread: &Thread) -> io::Result<()> {
     row.byte(b',');
     row.count(usize::from(thread.line));
     row.byte(b',');
-    put_bindings(&mut row, thread);
+    put_bindings(&mut row, &thread.bindings);
     row.byte(b'\n');
     row.say(output)
 }
@@ -143,15 +143,17 @@ fn say_counts<W: Write>(
 pub fn say_state<W: Write>(output: &mut W, state: &State) -> io::Result<()>
     requires { Fits state.now }
 {
-    let run = &state.run;
-    say_counts(output, run.nthreads, run.ntuples, state.nlines)?;
-    for thread in &run.threads[..run.nthreads] {
+    let threads = &state.threads;
+    let tuples = &state.tuples;
+    let lines = state.lines.count;
+    say_counts(output, threads.count, tuples.count, lines)?;
+    for thread in &threads.items[..threads.count] {
         say_thread(output, thread)?;
     }
-    let (tuples, _) = state.tuples.as_chunks::<6>();
-    for tuple in &tuples[..run.ntuples] {
+    let (rows, _) = tuples.bytes.as_chunks::<6>();
+    for tuple in &rows[..tuples.count] {
         say_tuple(output, tuple)?;
     }
-    answers::say_count(output, b"lines,", state.nlines)?;
-    say_roots(output, &state.arrivals[..state.narrivals])
+    answers::say_count(output, b"lines,", lines)?;
+    say_roots(output, &state.arrivals.roots[..state.arrivals.count])
 }

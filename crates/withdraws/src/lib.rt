@@ -3,58 +3,39 @@
 
 ghost use Rattle.std.specs.Prelude.{◌≡◌, ◌≤◌, leb};
 ghost use Rattle.sets.specs.Lists.{any};
-ghost use Rattle.threads.specs.View.{threads_view};
+ghost use Rattle.threads.specs.View.{threads_of};
 ghost use Rattle.state.specs.Fits.{Fits};
 ghost use Rattle.withdraws.specs.Withdrawn.{Withdrawn};
 
-use state::{Run, State};
-
-// The numbers of its refusals: the state has no arrival; a thread stands on one of the newest arrival's lines.
-const NO_ARRIVAL: u8 = 35;
-
-const LINES_IN_USE: u8 = 36;
+use klaim::{Reason, Refusal};
+use state::{Event, State};
+use threads::Threads;
 
 // Whether a thread stands on line r or on one behind it.
-fn occupied(run: Run, r: u8) -> bool
-    requires { run.nthreads ≤ 64 }
-    ensures { result ≡ any (λ th. leb r th.line) (threads_view run.nthreads run.threads) }
+fn occupied(threads: &Threads, r: u8) -> bool
+    requires { threads.now.count ≤ 64 }
+    ensures { result ≡ any (λ th. leb r th.line) (threads_of threads.now) }
 {
-    let n = run.nthreads;
-    let mut i: usize = 0;
-    while i < n {
-        let th = run.threads[i];
-        if r <= th.line {
-            return true;
-        }
-        i += 1;
-    }
-    false
+    threads.items[..threads.count].iter().any(|th| r <= th.line)
 }
 
-// The newest arrival withdrawn: the answer is its root's line number, or a refusal. Its lines are those from the root on. Only the counts
-// go back: what a table holds behind its count is no part of a state.
-pub fn withdraw(state: State) -> State
-    requires { Fits state }
-    ensures { Withdrawn state result }
+// The newest arrival withdrawn: the answer is its root's line number, or a refusal. Its lines are those from the root on. Only the
+// counts go back: what a table holds behind its count is no part of a state.
+pub fn withdraw(state: &mut State)
+    requires { Fits state.old }
+    ensures { Withdrawn state.old state.new }
 {
-    let mut next = state;
-    let k = next.narrivals;
-    if k == 0 {
-        next.run.told.number = NO_ARRIVAL;
-        next.run.told.row = 0;
-        return next;
+    if state.arrivals.count == 0 {
+        state.told = Err(Refusal::from(Reason::Newest));
+        return;
     }
-    let root = next.arrivals[k - 1];
-    if occupied(next.run, root) {
-        next.run.told.number = LINES_IN_USE;
-        next.run.told.row = 0;
-        return next;
+    let left = state.arrivals.count - 1;
+    let root = state.arrivals.roots[left];
+    if occupied(&state.threads, root) {
+        state.told = Err(Refusal::from(Reason::Occupied));
+        return;
     }
-    let lines = root as usize;
-    next.nlines = lines;
-    next.narrivals = k - 1;
-    next.run.told.number = 0;
-    next.run.told.event = state::WITHDRAWN;
-    next.run.told.site = root;
-    next
+    state.lines.count = usize::from(root);
+    state.arrivals.count = left;
+    state.told = Ok(Event::Withdrawn(root));
 }
