@@ -6,7 +6,7 @@ use Rattle.klaim.specs.Limits.{line_limit}
 use Rattle.klaim.specs.Rows.{Row, group_q}
 use Rattle.klaim.specs.Reader.{Text, an_arrival, in_limits, own, numbers_of, lines_of}
 use Rattle.tables.specs.View.{lines_view}
-use Rattle.forms.specs.declared.RowData.{RowData}
+use Rattle.forms.specs.declared.rows.Row as Form
 use Rattle.forms.specs.Forms.{row_data}
 use Rattle.scan.specs.declared.Tally.{Tally}
 use Rattle.arrivals.specs.declared.reading.ArrivalReader.{ArrivalReader}
@@ -29,7 +29,7 @@ unfoldable pub full_of : ℕ → ℕ → Tally → Bool
 full_of d g t = eqb g group_q & leb line_limit (d + t.lines)
 
 -- a Q row within limits
-pub record Passed (d : ℕ) (row : RowData) (t : Tally) : Type 0 where
+pub record Passed (d : ℕ) (row : Form.Row) (t : Tally) : Type 0 where
   pub low : in_limits (row_data row) ≡ true
-  pub room : full_of d row.group t ≡ false
-  pub placed : eqb row.group group_q ≡ true
+  pub room : full_of d (row_data row).group t ≡ false
+  pub placed : eqb (row_data row).group group_q ≡ true

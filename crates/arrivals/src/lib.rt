@@ -1,29 +1,38 @@
 //! An arrival, read from its bytes: the Q rows that a bring takes.
 #![tactic(auto)]
 
-ghost use Rattle.std.specs.Prelude.{◌≡◌, true, List, [], ◌∷◌, ◌≤◌, OnOk};
-ghost use Rattle.klaim.specs.Rows.{Row};
+ghost use Rattle.std.specs.Prelude.{◌≡◌, List, [], ◌∷◌, ◌++◌, ℕ, ◌≤◌, eqb, OnOk};
+ghost use Rattle.klaim.specs.Rows as Spec;
+ghost use Rattle.klaim.specs.Rows.{group_q};
 ghost use Rattle.klaim.specs.Reader.{Text, an_arrival, judge, whole, numbers_of, lines_of, read_arrival};
 ghost use Rattle.klaim.specs.Refusals.{answer_of};
-ghost use Rattle.forms.specs.Forms.{row_view, row_data, row_good};
+ghost use Rattle.std.proofs.Math.Option.{some};
+ghost use Rattle.forms.specs.Forms.{group_number, row_data};
 ghost use Rattle.scan.specs.Reasons.{judged_by};
-ghost use Rattle.arrivals.specs.Rows.{ArrivalHolds, Passed, full_of};
+ghost use Rattle.scan.specs.Tallies.{counted_of};
+ghost use Rattle.arrivals.specs.Rows.{ArrivalTally, ArrivalHolds, Passed, full_of};
 ghost use Rattle.arrivals.specs.Read.{arrival_view};
 
 mod reading;
 
-use forms::RowData;
+use forms::{Group, Row};
 use klaim::{Reason, Refusal};
 use reading::ArrivalReader;
 use scan::{Reader, Tally};
 use tables::LINES;
-use text::GROUP_Q;
 
 // The lines of an arrival.
 #[derive(Clone, Copy)]
 pub struct Arrival {
     pub lines: [u8; 2560],
     pub count: usize,
+}
+
+// Whether a group is that of an arrival's rows.
+fn is_own(group: Group) -> bool
+    ensures { result ≡ eqb (group_number group) group_q }
+{
+    group == Group::Q
 }
 
 impl ArrivalReader {
@@ -40,26 +49,37 @@ impl ArrivalReader {
     }
 
     // Whether no row of this group may follow.
-    fn is_full(&self, group: u8) -> bool
-        ensures { result ≡ full_of self.now.present group self.now.tally }
+    fn is_full(&self, group: Group) -> bool
+        ensures { result ≡ full_of self.now.present (group_number group) self.now.tally }
     {
         // `&` has no branch, so that the proof has one path.
-        (group == GROUP_Q) & (LINES <= self.present + self.tally.lines)
+        is_own(group) & (LINES <= self.present + self.tally.lines)
     }
 
     // Whether the row is let through.
-    fn admits(&self, row: RowData) -> Result<(), Reason>
-        requires { row_good row ≡ true }
-        ensures judged { (t : Text) (above : List Row) → ArrivalHolds t above self.now → judge t above (row_view row) ≡ judged_by result (row_data row) }
-        ensures passed { OnOk result (Passed self.now.present row self.now.tally) }
+    fn admits(&self, row: &Row) -> Result<(), Reason>
+        ensures judged { (t : Text) (above : List Spec.Row) → ArrivalHolds t above self.now → judge t above (some (row_data row.now)) ≡ judged_by result (row_data row.now) }
+        ensures passed { OnOk result (Passed self.now.present row.now self.now.tally) }
     {
-        scan::early(row, self.is_full(row.group), row.group == GROUP_Q)?;
+        let group = row.group();
+        scan::early(row, self.is_full(group), is_own(group))?;
         scan::late(row, self.tally.size)
+    }
+
+    // The line of a Q row put into the table, and not counted yet.
+    fn put(&mut self, row: &Row)
+        requires { Passed self.old.present row.now self.old.tally }
+        ensures same { (self.new.tally ≡ self.old.tally) × (self.new.present ≡ self.old.present) }
+        ensures counts { (n : ℕ) (above : List Spec.Row) → ArrivalTally n self.old.present above self.old.tally self.old.lines → ArrivalTally n self.new.present (above ++ (row_data row.now ∷ [])) (counted_of row.now self.old.tally) self.new.lines }
+    {
+        if let Row::Q(process) = row {
+            stores::put_process(&mut self.lines, self.tally.lines, process);
+        }
     }
 
     // The arrival, or why the text as a whole is refused. Line 0 is the root, as a root of zeros says.
     fn finish(&self) -> Result<Arrival, Refusal>
-        ensures { (t : Text) (rows : List Row) → ArrivalHolds t rows self.now → answer_of arrival_view result ≡ whole (numbers_of rows) (lines_of rows) (0 ∷ []) (lines_of rows) }
+        ensures { (t : Text) (rows : List Spec.Row) → ArrivalHolds t rows self.now → answer_of arrival_view result ≡ whole (numbers_of rows) (lines_of rows) (0 ∷ []) (lines_of rows) }
     {
         let root = [0u8; 128];
         whole::whole(self.tally.turn, &self.lines, self.tally.lines, &root, 1)?;
@@ -73,9 +93,9 @@ impl ArrivalReader {
 impl Reader for ArrivalReader {
     ghost holds = { ArrivalHolds };
 
-    fn take(&mut self, row: RowData) -> Result<(), Reason> {
+    fn take(&mut self, row: &Row) -> Result<(), Reason> {
         self.admits(row)?;
-        stores::put_process(&mut self.lines, self.tally.lines, row);
+        self.put(row);
         self.tally.count(row);
         Ok(())
     }

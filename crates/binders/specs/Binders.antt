@@ -1,19 +1,20 @@
 -- How often a template names a variable.
 -- Assumes nothing.
-use Rattle.std.specs.Prelude.{Bool, cond, ℕ, ◌+◌, eqb, leb}
-use Rattle.sets.specs.Lists.{◌&◌, imp, sum}
-use Rattle.text.specs.declared.Name.{Name}
-use Rattle.lines.specs.declared.Four.{Four}
-use Rattle.lines.specs.Lines.{names}
+use Rattle.std.specs.Prelude.{Bool, true, false, List, ℕ, eqb, leb, count_by}
+use Rattle.text.specs.declared.Target.TheVariants.{Site, Here, Variable}
+use Rattle.text.specs.declared.Field.{Field}
+use Rattle.text.specs.declared.Field.TheVariants.{Value, Binder, Wildcard}
 
--- the sum of the first n of four, or of all of them
-unfoldable pub first_sum : ℕ → ℕ → ℕ → ℕ → ℕ → ℕ
-first_sum n a b c d = cond (eqb n 0) 0 (cond (eqb n 1) a (cond (eqb n 2) (a + b) (cond (eqb n 3) (a + b + c) (a + b + c + d))))
+-- whether a field is u or `!u`
+abbrev pub names : ℕ → Field → Bool
+names u (Value (Site s)) = false
+names u (Value Here) = false
+names u (Value (Variable v)) = eqb u v
+names u (Binder v) = eqb u v
+names u Wildcard = false
 
--- how often a name is u or `!u`
-unfoldable pub hits : ℕ → Name → ℕ
-hits u m = cond (leb 3 m.kind & leb m.kind 4 & eqb u m.number) 1 0
-
--- a name that is no binder, or whose variable the fields name once
-unfoldable pub single : Four → Name → Bool
-single f m = imp (eqb m.kind 4) (leb (sum (hits m.number) (names f)) 1)
+-- a field that is no binder, or whose variable the fields name once
+abbrev pub single : List Field → Field → Bool
+single fs (Value x) = true
+single fs (Binder u) = leb (count_by (names u) fs) 1
+single fs Wildcard = true

@@ -1,97 +1,68 @@
 //! The test of a template: no variable that it binds stands in it twice.
 #![tactic(auto)]
 
-ghost use Rattle.std.specs.Prelude.{◌≡◌, true, ◌<◌, ◌≤◌};
-ghost use Rattle.sets.specs.Lists.{all, sum};
+ghost use Rattle.std.specs.Prelude.{◌≡◌, count_by};
+ghost use Rattle.std.specs.List.{list_all};
 ghost use Rattle.klaim.specs.Process.{clash, template};
-ghost use Rattle.lines.specs.Lines.{names};
-ghost use Rattle.forms.specs.Forms.{row_data, row_good};
-ghost use Rattle.binders.specs.Binders.{first_sum, hits, single};
+ghost use Rattle.lines.specs.Lines.{items, line_view};
+ghost use Rattle.forms.specs.Forms.{row_data};
+ghost use Rattle.binders.specs.Binders.{names, single};
 
-use forms::RowData;
-use lines::Four;
-use text::{BINDER, IN, Name, READ, VARIABLE};
+use forms::Row;
+use lines::{Fields, Line};
+use text::{Field, Target};
 
-// How often a name is u or `!u`.
-fn hit(name: Name, u: u16) -> u8
-    ensures { (result ≡ hits u name) × (result ≤ 1) }
+// Whether a field is u or `!u`.
+fn names(field: Field, u: u16) -> bool
+    ensures { result ≡ names u field }
 {
-    let kind = name.kind;
-    let number = name.number;
-    if kind < VARIABLE {
-        return 0;
-    }
-    if BINDER < kind {
-        return 0;
-    }
-    if u == number {
-        return 1;
-    }
-    0
-}
-
-// The sum of the first n of four.
-fn total(n: usize, a: u8, b: u8, c: u8, d: u8) -> u8
-    requires { (a ≤ 1) × (b ≤ 1) × (c ≤ 1) × (d ≤ 1) }
-    ensures { result ≡ first_sum n a b c d }
-{
-    match n {
-        0 => 0,
-        1 => a,
-        2 => a + b,
-        3 => a + b + c,
-        _ => a + b + c + d,
+    match field {
+        Field::Value(Target::Variable(v)) => u == v,
+        Field::Value(_) => false,
+        Field::Binder(v) => u == v,
+        Field::Wildcard => false,
     }
 }
 
 // How often u or `!u` stands in the fields.
-fn times(f: Four, u: u16) -> u8
-    ensures { result ≡ sum (hits u) (names f) }
+fn times(fields: &Fields<Field>, u: u16) -> usize
+    ensures { result ≡ count_by (names u) (items fields.now) }
 {
-    let n = f.count;
-    let a = hit(f.a, u);
-    let b = hit(f.b, u);
-    let c = hit(f.c, u);
-    let d = hit(f.d, u);
-    total(n, a, b, c, d)
+    fields.as_slice().iter().filter(|f| names(**f, u)).count()
 }
 
-// Whether a name is no binder, or its variable stands in the fields once.
-fn once(f: Four, name: Name) -> bool
-    ensures { result ≡ single f name }
+// Whether a field is no binder, or its variable stands in the fields once.
+fn once(fields: &Fields<Field>, field: Field) -> bool
+    ensures { result ≡ single (items fields.now) field }
 {
-    let kind = name.kind;
-    let number = name.number;
-    if kind != BINDER {
-        return true;
+    match field {
+        Field::Binder(u) => times(fields, u) <= 1,
+        _ => true,
     }
-    times(f, number) <= 1
 }
 
-fn apart(f: Four) -> bool
-    ensures { result ≡ all (single f) (names f) }
+fn apart(fields: &Fields<Field>) -> bool
+    ensures { result ≡ list_all (single (items fields.now)) (items fields.now) }
 {
-    let n = f.count;
-    let a = once(f, f.a);
-    let b = once(f, f.b);
-    let c = once(f, f.c);
-    let d = once(f, f.d);
-    judge::every(n, a, b, c, d)
+    fields.as_slice().iter().all(|f| once(fields, *f))
+}
+
+fn line_clashes(line: &Line) -> bool
+    ensures { result ≡ clash (template (line_view line.now)) }
+{
+    match line {
+        Line::In(get) => !apart(&get.fields),
+        Line::Read(get) => !apart(&get.fields),
+        _ => false,
+    }
 }
 
 // 7: whether a template has `!u` twice, or `!u` and u.
-pub fn clashes(row: RowData) -> bool
-    requires row_value { row_good row ≡ true }
-    requires group_nonzero { 0 < row.group }
-    ensures { result ≡ clash (template (row_data row).process) }
+pub fn clashes(row: &Row) -> bool
+    ensures { result ≡ clash (template (row_data row.now).process) }
 {
-    let line = row.line;
-    let kind = line.kind;
-    if kind == IN {
-        return !apart(line.fields);
+    match row {
+        Row::Q(process) => line_clashes(&process.line),
+        _ => false,
     }
-    if kind == READ {
-        return !apart(line.fields);
-    }
-    false
 }

@@ -1,21 +1,14 @@
 -- What an input asks next.
 -- Assumes nothing.
-use Rattle.std.specs.Prelude.{◌≡◌, ℕ}
+use Rattle.std.specs.Prelude.{◌≡◌, Option, None, Result, Ok, Err}
+use Rattle.std.specs.declared.io.Error.{Error}
 use Rattle.script_rows.specs.declared.Window.{Window}
-use Rattle.script_rows.specs.Window.{input_ended, read_failed}
+use Rattle.script_rows.specs.declared.Find.TheVariants.{End, Failed}
 use Rattle.commands.specs.declared.Command.{Command}
-
--- the kinds that end a run: the input has ended
-abbrev pub none : ℕ
-none = 8
-
--- a read of it failed
-abbrev pub unread : ℕ
-unread = 9
 
 -- a run ends where the input has ended or a read failed, and nowhere else; where a read failed, what had come is neither a command nor
 -- the end of the input
-pub record Stops (w : Window) (c : Command) : Type 0 where
-  pub failed : w.found ≡ read_failed → c.kind ≡ unread
-  pub only_failed : c.kind ≡ unread → w.found ≡ read_failed
-  pub only_ended : c.kind ≡ none → w.found ≡ input_ended
+pub record Stops (w : Window) (asked : Result (Option Command) Error) : Type 0 where
+  pub failed : (why : Error) → w.found ≡ Failed why → asked ≡ Err why
+  pub only_failed : (why : Error) → asked ≡ Err why → w.found ≡ Failed why
+  pub only_ended : asked ≡ Ok None → w.found ≡ End

@@ -1,14 +1,13 @@
-//! The commands of an engine script, as they come: what each says, as numbers.
+//! The commands of an engine script, as they come.
 #![tactic(auto)]
 
-ghost use Rattle.std.specs.Prelude.{◌≡◌, ◌<◌, ◌≤◌, length};
-ghost use Rattle.script_rows.specs.Window.{row_there, Within};
-ghost use Rattle.commands.specs.Asked.{none, Stops};
-ghost use Rattle.text.specs.Pieces.{Cut};
+ghost use Rattle.std.specs.Prelude.{◌≡◌, None, ◌<◌, ◌≤◌, length};
+ghost use Rattle.script_rows.specs.Window.{Within};
+ghost use Rattle.commands.specs.Asked.{Stops};
 
-use script_rows::{END, FAILED, FULL, Window};
+use script_rows::{Find, Window};
+use std::io;
 use std::io::Read;
-use text::{EDGES, Spelled};
 
 // The most bytes of a command row.
 pub const ROW_LIMIT: usize = 1048576;
@@ -16,226 +15,162 @@ pub const ROW_LIMIT: usize = 1048576;
 // The most bytes of an arrival's rows.
 pub const ARRIVAL_LIMIT: usize = 65536;
 
-// A command: its kind, and its three numbers where it has them.
-#[derive(Clone, Copy)]
-pub struct Command {
-    pub kind: u8,
-    pub a: usize,
-    pub b: usize,
-    pub c: usize,
+// What a step is to be made of: the thread, the tuple that it takes or reads, and the root of the arrival that it accepts.
+#[derive(Clone, Copy, PartialEq, Eq)]
+pub struct Choice {
+    pub thread: usize,
+    pub tuple: usize,
+    pub root: usize,
 }
 
-pub const BAD: u8 = 0;
-
-pub const STEP: u8 = 1;
-
-pub const GUARDED: u8 = 2;
-
-pub const DOOR: u8 = 3;
-
-pub const READY: u8 = 4;
-
-pub const BRING: u8 = 5;
-
-pub const WITHDRAW: u8 = 6;
-
-// A `bring` whose rows are more than the limit.
-pub const OVERLONG: u8 = 7;
-
-// Kinds from here on end a run: the input has ended, and there is no command.
-pub const NONE: u8 = 8;
-
-// A read of the input failed.
-pub const UNREAD: u8 = 9;
-
-// What an input asks next, and where: the rows of a `bring` stand from `from` to `row`.
-#[derive(Clone, Copy)]
-pub struct Asked {
-    pub command: Command,
-    pub window: Window,
+// What a row of an engine script commands.
+#[derive(Clone, Copy, PartialEq, Eq)]
+pub enum Command {
+    Step(Choice),
+    Guarded(Choice),
+    Door {
+        root: usize,
+        site: usize,
+        sandbox: usize,
+    },
+    Ready,
+    Bring,
+    Withdraw,
+    // A `bring` whose rows are more than the limit.
+    Overlong,
+    // A row that is no command.
+    Bad,
 }
 
-// The kind of a command with three numbers, by its name.
-fn kind_of(f: &[u8]) -> u8
-    ensures { result < none }
-{
-    if text::same(f, b"step") {
-        return STEP;
-    }
-    if text::same(f, b"guarded") {
-        return GUARDED;
-    }
-    if text::same(f, b"door") {
-        return DOOR;
-    }
-    BAD
-}
-
-// A command that has no numbers.
-fn bare(kind: u8) -> Command
-    ensures { result.kind ≡ kind }
-{
-    Command {
-        kind,
-        a: 0,
-        b: 0,
-        c: 0,
+// A command of three numbers, by its name.
+fn named(name: &[u8], a: usize, b: usize, c: usize) -> Command {
+    let choice = Choice {
+        thread: a,
+        tuple: b,
+        root: c,
+    };
+    match name {
+        b"step" => Command::Step(choice),
+        b"guarded" => Command::Guarded(choice),
+        b"door" => Command::Door {
+            root: a,
+            site: b,
+            sandbox: c,
+        },
+        _ => Command::Bad,
     }
 }
 
-// A command of three numbers, bad where one is none.
-fn joined(kind: u8, a: Spelled, b: Spelled, c: Spelled) -> Command
-    requires { kind < none }
-    ensures { result.kind < none }
-{
-    if a.is {
-        if b.is {
-            if c.is {
-                return Command {
-                    kind,
-                    a: a.value,
-                    b: b.value,
-                    c: c.value,
-                };
-            }
-        }
+// A command of four fields, a name and three numbers; none, where a row has other fields.
+fn with_numbers(row: &[u8]) -> Option<Command> {
+    let mut fields = row.split(|b| *b == b',');
+    let name = fields.next()?;
+    let a = text::decimal(fields.next()?)?;
+    let b = text::decimal(fields.next()?)?;
+    let c = text::decimal(fields.next()?)?;
+    match fields.next() {
+        Some(_) => None,
+        None => Some(named(name, a, b, c)),
     }
-    bare(BAD)
-}
-
-// A command of n fields.
-fn of_fields(row: &[u8], edges: &[usize; EDGES], n: usize) -> Command
-    requires { Cut row.now edges.now n }
-    ensures { result.kind < none }
-{
-    let kind = kind_of(text::field(row, edges, n, 0));
-    let a = text::decimal(text::field(row, edges, n, 1));
-    let b = text::decimal(text::field(row, edges, n, 2));
-    let c = text::decimal(text::field(row, edges, n, 3));
-    if n == 4 {
-        return joined(kind, a, b, c);
-    }
-    bare(BAD)
-}
-
-// A command that has fields.
-fn with_numbers(row: &[u8]) -> Command
-    ensures { result.kind < none }
-{
-    let mut edges = [0usize; EDGES];
-    let cut = text::cut(row, 0, &mut edges);
-    let end = cut.end;
-    of_fields(&row[..end], &edges, cut.count)
 }
 
 // What a row commands.
-fn read(row: &[u8]) -> Command
-    ensures { result.kind < none }
-{
-    if text::same(row, b"bring") {
-        return bare(BRING);
+fn read(row: &[u8]) -> Command {
+    match row {
+        b"bring" => Command::Bring,
+        b"ready" => Command::Ready,
+        b"withdraw" => Command::Withdraw,
+        _ => with_numbers(row).unwrap_or(Command::Bad),
     }
-    if text::same(row, b"ready") {
-        return bare(READY);
-    }
-    if text::same(row, b"withdraw") {
-        return bare(WITHDRAW);
-    }
-    with_numbers(row)
 }
 
-// The command at the end of the input: bytes that no 0A ends are no row.
-fn at_end(w: Window) -> Command
-    ensures { result.kind ≤ none }
-{
+// The command at the end of the input, none where nothing is left of it: bytes that no 0A ends are no row.
+fn at_end(w: Window) -> Option<Command> {
     if w.from == w.row {
-        return bare(NONE);
+        return None;
     }
-    bare(BAD)
+    Some(Command::Bad)
 }
 
 // The command of a row that is there. Longer than the limit is none.
 fn of_row(buf: &[u8], w: Window) -> Command
     requires { Within w buf.now × (w.row < w.next) }
-    ensures { result.kind < none }
 {
     let row = w.row;
     let end = w.next - 1;
     if ROW_LIMIT < end - row {
-        return bare(BAD);
+        return Command::Bad;
     }
     read(&buf[row..end])
 }
 
-// The command of what was found.
-fn of_found(buf: &[u8], w: Window) -> Command
-    requires { Within w buf.now × (w.found ≡ row_there → w.row < w.next) }
+// A command, or none at the end of the input, unless a read failed.
+fn unless_failed(w: Window, command: Option<Command>) -> io::Result<Option<Command>>
+    requires { command ≡ None → w.found ≡ Find.End }
     ensures { Stops w result }
 {
-    if w.found == script_rows::ROW {
-        return of_row(buf, w);
+    match w.found {
+        Find::Failed(why) => Err(why),
+        _ => Ok(command),
     }
-    if w.found == END {
-        return at_end(w);
-    }
-    if w.found == FAILED {
-        return bare(UNREAD);
-    }
-    bare(BAD)
+}
+
+// The command of what was found.
+fn of_found(buf: &[u8], w: Window) -> io::Result<Option<Command>>
+    requires { Within w buf.now × (w.found ≡ Find.Row → w.row < w.next) }
+    ensures { Stops w result }
+{
+    let command = match w.found {
+        Find::Row => Some(of_row(buf, w)),
+        Find::End => at_end(w),
+        _ => Some(Command::Bad),
+    };
+    unless_failed(w, command)
 }
 
 // A `bring` behind its rows: those that stand from `from` to `row`.
-fn brought(w: Window) -> Command
+fn brought(w: Window) -> io::Result<Option<Command>>
     requires { w.from ≤ w.row }
     ensures { Stops w result }
 {
-    if w.found == FAILED {
-        return bare(UNREAD);
-    }
     if ARRIVAL_LIMIT < w.row - w.from {
-        return bare(OVERLONG);
+        return unless_failed(w, Some(Command::Overlong));
     }
-    bare(BRING)
-}
-
-// A `bring` whose rows do not fit into the buffer, behind its row `.`.
-fn passed_over(w: Window) -> Command
-    ensures { Stops w result }
-{
-    if w.found == FAILED {
-        return bare(UNREAD);
-    }
-    bare(OVERLONG)
+    unless_failed(w, Some(Command::Bring))
 }
 
 // A `bring` with its rows, up to the next row `.` or the end of the input.
-fn with_rows<R: Read>(input: &mut R, buf: &mut [u8], last: Window) -> Asked
-    requires { Within last buf.old }
-    ensures { Within result.window buf.new × Stops result.window result.command }
+fn with_rows<R: Read>(
+    input: &mut R,
+    buf: &mut [u8],
+    window: &mut Window,
+) -> io::Result<Option<Command>>
+    requires { Within window.old buf.old }
+    ensures within { Within window.new buf.new }
+    ensures stops { Stops window.new result }
 {
-    let w = script_rows::dot(input, buf, script_rows::passed(last));
-    if w.found == FULL {
-        let behind = script_rows::dot_alone(input, buf, w);
-        return Asked {
-            command: passed_over(behind),
-            window: behind,
-        };
-    }
-    Asked {
-        command: brought(w),
-        window: w,
-    }
+    *window = window.passed().dot(input, buf);
+    let Find::Full = window.found else {
+        return brought(*window);
+    };
+    *window = window.dot_alone(input, buf);
+    unless_failed(*window, Some(Command::Overlong))
 }
 
-// What the input asks next.
-pub fn next<R: Read>(input: &mut R, buf: &mut [u8], last: Window) -> Asked
-    requires { Within last buf.old }
-    ensures { Within result.window buf.new × Stops result.window result.command }
+// What the input asks next, none at its end; the rows of a `bring` stand from `from` to `row`.
+pub fn next<R: Read>(
+    input: &mut R,
+    buf: &mut [u8],
+    window: &mut Window,
+) -> io::Result<Option<Command>>
+    requires { Within window.old buf.old }
+    ensures within { Within window.new buf.new }
+    ensures stops { Stops window.new result }
 {
-    let w = script_rows::row_alone(input, buf, last);
-    let command = of_found(buf, w);
-    if command.kind == BRING {
-        return with_rows(input, buf, w);
+    *window = window.row_alone(input, buf);
+    let asked = of_found(buf, *window);
+    if let Ok(Some(Command::Bring)) = asked {
+        return with_rows(input, buf, window);
     }
-    Asked { command, window: w }
+    asked
 }

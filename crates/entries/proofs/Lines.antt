@@ -1,160 +1,181 @@
 -- Laws of lines and tuples as bytes.
 -- Assumes nothing.
 use mathlib.Core.Path.{◌≡◌, refl, sym, ap, ◌∙◌}
-use mathlib.Core.Bool.{Bool, true, false}
+use mathlib.Core.Logic.{◌⊎◌, inl, inr}
+use mathlib.Core.Bool.{true, false}
 use mathlib.Core.List.{List, [], ◌∷◌, map}
-use Prim.Native.Nat.{ℕ, zero, suc, ◌-◌, ◌%◌, ◌≤◌, ◌<◌}
-use native.Mathlib.Numerals.{add-one}
+use Prim.Native.Nat.{ℕ, ◌+◌, ◌/◌, ◌%◌, ◌<◌}
 use native.Mathlib.Omega.{arith}
-use lib.Dec.{ltb}
-use borrow.Author.Tests.{leb-true, ltb-true}
-use Rattle.sets.specs.Lists.{◌&◌, all}
-use Rattle.sets.proofs.Lists.{and_l, and_r}
-use Rattle.klaim.specs.Limits.{site_limit}
-use Rattle.klaim.specs.Rows.{Row, group_q, row_line}
+use native.Mathlib.Numerals.{add-one}
+use lib.ListN.{take}
+use lib.Dec.{eqb, ltb}
+use borrow.Author.Tests.{ne_eqb}
+use Rattle.sets.specs.Lists.{all, concat, ◌⧺◌}
+use Rattle.sets.proofs.Lists.{and_l, and_r, low_first, low_rest}
+use Rattle.klaim.specs.declared.Slot.TheVariants.{Value as value_slot}
+use Rattle.klaim.specs.Process.{boxes_of, children, slots_of, sites_in, used_in, bound_in}
+use Rattle.klaim.specs.Rows.{row_line}
 use Rattle.klaim.specs.Reader.{in_limits}
 use Rattle.klaim.proofs.Within.{within}
-use Rattle.text.specs.declared.Name.{Name}
-use Rattle.text.specs.Fields.{up_to, loc, slot}
-use Rattle.lines.specs.declared.LineData.{LineData}
-use Rattle.lines.specs.Lines.{names, name_fits, get_kind, line_shape, line_good}
-use Rattle.lines.specs.Lines as Form
-use Rattle.forms.specs.declared.RowData.{RowData}
-use Rattle.forms.specs.Forms.{row_data, tuple_group, row_good}
-use Rattle.forms.proofs.RowForms.{row_as, numbers, tuple_some}
-use Rattle.forms.proofs.Views.{view_some, view_tuple, view_q}
-use Rattle.judge.specs.Judge.{low_name, low_names, low_numbers, row_limits}
-use Rattle.judge.proofs.Names.{Shape, shape, fields_fit_lem}
-use Rattle.judge.proofs.Limits.{good, limits_are}
-use Rattle.tables.specs.View.{loc_of, slot_of, field_bytes, line_by, line_of, row_at}
-use Rattle.entries.specs.Entries.{byte_of, code_of, codes, line_codes, tuple_codes}
-use Rattle.entries.proofs.Codes.{byte_low, byte_is, box_is, slot_code, loc_code, map_same, first_codes}
+use Rattle.text.specs.declared.SiteName.{SiteName}
+use Rattle.text.specs.declared.Target.{Target}
+use Rattle.text.specs.declared.Target.TheVariants.{Site, Here, Variable}
+use Rattle.text.specs.declared.Field.{Field}
+use Rattle.text.specs.declared.Field.TheVariants.{Value, Binder, Wildcard}
+use Rattle.text.specs.Fields.{loc, slot}
+use Rattle.lines.specs.declared.Get.{Get}
+use Rattle.lines.specs.declared.Line.{Line}
+use Rattle.lines.specs.declared.Fields.{Fields}
+use Rattle.lines.specs.declared.Line.TheVariants.{Par, Rep, Out, In, Read, Eval, Accept}
+use Rattle.lines.specs.Lines.{items, get_of, line_view}
+use Rattle.forms.specs.declared.rows.Process.{Process}
+use Rattle.forms.specs.Forms.{process_data, sites_of}
+use Rattle.forms.specs.declared.rows.Tuple.{Tuple}
+use Rattle.judge.proofs.Tests.{all_cat}
+use Rattle.judge.proofs.Lines.{out_slots, get_slots, sites_behind, variables_behind}
+use Rattle.tables.specs.View.{loc_of, slot_of, row_at}
+use Rattle.entries.specs.Entries.{target_code, field_code}
 
--- the bytes of a line, taken apart
-coded : (d : LineData) → line_of (line_codes d) 0 ≡ line_by (d.kind - 1) (byte_of d.next) (byte_of d.other) (byte_of d.sandbox % 32) (loc_of (code_of d.target)) (map code_of (names d.fields))
-unfolding line_of line_codes codes field_bytes
-coded d = ap (line_by (d.kind - 1) (byte_of d.next) (byte_of d.other) (byte_of d.sandbox % 32) (loc_of (code_of d.target))) (first_codes code_of d.fields)
+-- numbers of names within their limit
+abbrev pub low : List ℕ → Type 0
+low xs = all (λ n. ltb n 32) xs ≡ true
 
-abbrev low : Name → Bool
-low = low_name 4 32
+abbrev pub target_low : Target → Type 0
+target_low t = low (sites_in (value_slot (loc t))) × low (used_in (value_slot (loc t)) ⧺ [])
 
--- by the kind of the line
-module _ (d : LineData) (G : line_good d ≡ true) (N : low_numbers d ≡ true) (M : low_names 4 32 d ≡ true) where
-  next_low : {b c : Bool} {t f : ℕ} → Shape true b c t f d → byte_of d.next ≡ d.next
-  unfolding low_numbers
-  next_low S = byte_is d.next S.next_is (and_l _ _ N)
+abbrev pub field_low : Field → Type 0
+field_low f = low (sites_in (slot f)) × low (used_in (slot f) ⧺ bound_in (slot f))
 
-  other_low : {a c : Bool} {t f : ℕ} → Shape a true c t f d → byte_of d.other ≡ d.other
-  unfolding low_numbers
-  other_low S = byte_is d.other S.other_is (and_l _ _ (and_r _ _ N))
+-- a target and a field read from their bytes
+pub loc_code : (t : Target) → target_low t → loc_of (target_code t) ≡ loc t
+unfolding loc_of loc sites_in used_in ◌⧺◌
+loc_code (Site s) h =
+    let g = low_first 32 s [] h.0 in
+    let k : s % 32 / 32 % 4 ≡ 0 = omega arith in
+    let n : s % 32 % 32 ≡ s = omega arith in
+    rw (k, n) refl
+loc_code Here h = refl
+loc_code (Variable u) h =
+    let g = low_first 32 u [] h.1 in
+    let k : (64 + u % 32) / 32 % 4 ≡ 2 = omega arith in
+    let n : (64 + u % 32) % 32 ≡ u = omega arith in
+    rw (k, n) refl
 
-  box_low : {a b : Bool} {t f : ℕ} → Shape a b true t f d → byte_of d.sandbox % 32 ≡ d.sandbox
-  unfolding low_numbers
-  box_low S = box_is d.sandbox S.sandbox_is (and_r _ _ (and_r _ _ N))
+pub slot_code : (f : Field) → field_low f → slot_of (field_code f) ≡ slot f
+unfolding slot_of loc_of slot loc sites_in used_in bound_in ◌⧺◌
+slot_code (Value (Site s)) h =
+    let g = low_first 32 s [] h.0 in
+    let w : eqb (s % 32) 128 ≡ false = ne_eqb (s % 32) 128 (λ z. omega arith) in
+    let k : s % 32 / 32 % 4 ≡ 0 = omega arith in
+    let n : s % 32 % 32 ≡ s = omega arith in
+    rw (w, k, n) refl
+slot_code (Value Here) h = refl
+slot_code (Value (Variable u)) h =
+    let g = low_first 32 u [] h.1 in
+    let w : eqb (64 + u % 32) 128 ≡ false = ne_eqb (64 + u % 32) 128 (λ z. omega arith) in
+    let k : (64 + u % 32) / 32 % 4 ≡ 2 = omega arith in
+    let n : (64 + u % 32) % 32 ≡ u = omega arith in
+    rw (w, k, n) refl
+slot_code (Binder u) h =
+    let g = low_first 32 u [] h.1 in
+    let w : eqb (96 + u % 32) 128 ≡ false = ne_eqb (96 + u % 32) 128 (λ z. omega arith) in
+    let k : (96 + u % 32) / 32 % 4 ≡ 3 = omega arith in
+    let n : (96 + u % 32) % 32 ≡ u = omega arith in
+    rw (w, k, n) refl
+slot_code Wildcard h = refl
 
-  target_low : {a b c : Bool} {f : ℕ} → Shape a b c 3 f d → loc_of (code_of d.target) ≡ loc d.target
-  unfolding low_names name_fits
-  target_low S = loc_code d.target S.target_fits (and_l _ _ M)
+-- all of them
+module _ {T B : Type 0} (read : ℕ → B) (view : T → B) (code : T → ℕ) (sites variables : T → List ℕ) (same : (x : T) → low (sites x) × low (variables x) → read (code x) ≡ view x) where
+  pub codes_read : (xs : List T) → low (concat sites xs) → low (concat variables xs) → map read (map code xs) ≡ map view xs
+  unfolding concat
+  codes_read [] s v = refl
+  codes_read (x ∷ xs) s v =
+      let a = sym (all_cat _ (sites x) (concat sites xs)) ∙ s in
+      let b = sym (all_cat _ (variables x) (concat variables xs)) ∙ v in
+      rw (same x (and_l _ _ a, and_l _ _ b), codes_read xs (and_r _ _ a) (and_r _ _ b)) refl
 
-  locs_low : {a b c : Bool} {t : ℕ} → Shape a b c t 3 d → map loc_of (map code_of (names d.fields)) ≡ map loc (names d.fields)
-  unfolding low_names
-  locs_low S = map_same loc_of loc code_of (up_to 3) low loc_code (names d.fields) (fields_fit_lem 3 3 d.fields S.fields_fits (omega arith)) (and_r _ _ M)
+-- the sites of a tuple
+pub sites_read : (ss : List SiteName) → low (map (λ (s : SiteName). s.0) ss) → map (λ (s : SiteName). s.0 % 256) ss ≡ map (λ (s : SiteName). s.0) ss
+unfolding all
+sites_read [] h = refl
+sites_read (s ∷ ss) h =
+    let g = low_first 32 s.0 _ h in
+    let n : s.0 % 256 ≡ s.0 = omega arith in
+    rw (n, sites_read ss (low_rest 32 s.0 _ h)) refl
 
-  slots_low : {a b c : Bool} {t : ℕ} → Shape a b c t 5 d → map slot_of (map code_of (names d.fields)) ≡ map slot (names d.fields)
-  unfolding low_names
-  slots_low S = map_same slot_of slot code_of (up_to 5) low slot_code (names d.fields) (fields_fit_lem 5 5 d.fields S.fields_fits (omega arith)) (and_r _ _ M)
+-- the numbers of a line within their limits
+pub record LowLine (l : Line) : Type 0 where
+  pub boxes_low : low (boxes_of (line_view l))
+  pub variables_low : low (concat used_in (slots_of (line_view l)) ⧺ concat bound_in (slots_of (line_view l)))
+  pub sites_low : low (concat sites_in (slots_of (line_view l)))
+  pub children_low : all (λ q. ltb q 256) (children (line_view l)) ≡ true
 
-  abbrev Kind : ℕ → Type 0
-  Kind k = d.kind ≡ k → line_by (d.kind - 1) (byte_of d.next) (byte_of d.other) (byte_of d.sandbox % 32) (loc_of (code_of d.target)) (map code_of (names d.fields)) ≡ Form.line_of d
+pub low_line : (p : Process) → in_limits (process_data p) ≡ true → LowLine p.line
+unfolding process_data row_line
+low_line p h =
+    let W = within (process_data p) h in
+    record { boxes_low = W.boxes_low; variables_low = W.vars_low; sites_low = W.sites_low; children_low = low_rest 256 p.number _ W.lines_low }
 
-  coded_nil : Kind 1
-  unfolding line_by Form.line_of
-  coded_nil e = rw e
+-- a number below 256, and a sandbox
+byte_is : (n : ℕ) → n < 256 → n % 256 ≡ n
+byte_is n h = omega arith
 
-  coded_par : Kind 2
-  unfolding line_by Form.line_of line_good line_shape ◌&◌
-  coded_par e = let S : Shape true true false 0 0 d = shape (rw e at G) in rw (e, next_low S, other_low S)
+box_is : (n : ℕ) → n < 32 → n % 256 % 32 ≡ n
+box_is n h = omega arith
 
-  coded_rep : Kind 3
-  unfolding line_by Form.line_of line_good line_shape ◌&◌
-  coded_rep e = let S : Shape true false false 0 0 d = shape (rw e at G) in rw (e, next_low S)
+-- what stands in a line of each kind
+pub rep_low : (a : ℕ) → LowLine (Rep a) → a % 256 ≡ a
+unfolding line_view children
+rep_low a L = byte_is a (low_first 256 a [] L.children_low)
 
-  coded_out : Kind 4
-  unfolding line_by Form.line_of line_good line_shape ◌&◌
-  coded_out e = let S : Shape true false false 3 3 d = shape (rw e at G) in rw (e, next_low S, target_low S, locs_low S)
+pub par_low : (a b : ℕ) → LowLine (Par a b) → (a % 256 ≡ a) × (b % 256 ≡ b)
+unfolding line_view children
+par_low a b L = (byte_is a (low_first 256 a _ L.children_low), byte_is b (low_first 256 b [] (low_rest 256 a _ L.children_low)))
 
-  coded_in : Kind 5
-  unfolding line_by Form.line_of get_kind line_good line_shape ◌&◌
-  coded_in e = let S : Shape true false false 3 5 d = shape (rw e at G) in rw (e, next_low S, target_low S, slots_low S)
+pub accept_low : (a k : ℕ) → LowLine (Accept a k) → (a % 256 ≡ a) × (k % 256 % 32 ≡ k)
+unfolding line_view children boxes_of
+accept_low a k L = (byte_is a (low_first 256 a [] L.children_low), box_is k (low_first 32 k [] L.boxes_low))
 
-  coded_read : Kind 6
-  unfolding line_by Form.line_of get_kind line_good line_shape ◌&◌
-  coded_read e = let S : Shape true false false 3 5 d = shape (rw e at G) in rw (e, next_low S, target_low S, slots_low S)
+-- the names of `out`, of `in` and `read`, of `eval`
+pub out_low : (a : ℕ) (g : Target) (fs : Fields Target) → LowLine (Out a g fs) → (a % 256 ≡ a) × (loc_of (target_code g) ≡ loc g) × (map loc_of (map target_code (items fs)) ≡ map loc (items fs))
+unfolding line_view children bound_in
+out_low a g fs L =
+    let s = rw (out_slots a g fs, sites_behind (λ n. ltb n 32) (λ (t : Target). value_slot (loc t)) g (items fs)) at L.sites_low in
+    let v = rw (out_slots a g fs, variables_behind (λ n. ltb n 32) (λ (t : Target). value_slot (loc t)) g (items fs) (λ (t : Target). used_in (value_slot (loc t)) ⧺ []) (λ t. refl)) at L.variables_low in (
+      byte_is a (low_first 256 a [] L.children_low),
+      loc_code g (and_l _ _ s, and_l _ _ v),
+      codes_read loc_of loc target_code (λ t. sites_in (value_slot (loc t))) (λ t. used_in (value_slot (loc t)) ⧺ []) loc_code (items fs) (and_r _ _ s) (and_r _ _ v),
+    )
 
-  coded_eval : Kind 7
-  unfolding line_by Form.line_of line_good line_shape ◌&◌
-  coded_eval e = let S : Shape true true true 3 0 d = shape (rw e at G) in rw (e, next_low S, target_low S, other_low S, box_low S)
+pub get_low : (l : Line) (g : Get) → (l ≡ In g) ⊎ (l ≡ Read g) → LowLine l → (g.next % 256 ≡ g.next) × (loc_of (target_code g.target) ≡ loc g.target) × (map slot_of (map field_code (items g.fields)) ≡ map slot (items g.fields))
+unfolding bound_in line_view get_of children
+get_low l g e L =
+    let s = rw (get_slots l g e, sites_behind (λ n. ltb n 32) slot g.target (items g.fields)) at L.sites_low in
+    let v = rw (get_slots l g e, variables_behind (λ n. ltb n 32) slot g.target (items g.fields) (λ f. used_in (slot f) ⧺ bound_in (slot f)) (λ f. refl)) at L.variables_low in (
+      next_is e L.children_low,
+      loc_code g.target (and_l _ _ s, and_l _ _ v),
+      codes_read slot_of slot field_code (λ f. sites_in (slot f)) (λ f. used_in (slot f) ⧺ bound_in (slot f)) slot_code (items g.fields) (and_r _ _ s) (and_r _ _ v),
+    )
+  where
+    next_is : (l ≡ In g) ⊎ (l ≡ Read g) → all (λ q. ltb q 256) (children (line_view l)) ≡ true → g.next % 256 ≡ g.next
+    next_is (inl q) h = byte_is g.next (low_first 256 g.next [] (rw q at h))
+    next_is (inr q) h = byte_is g.next (low_first 256 g.next [] (rw q at h))
 
-  coded_accept : Kind 8
-  unfolding line_by Form.line_of line_good line_shape ◌&◌
-  coded_accept e = let S : Shape true false true 0 0 d = shape (rw e at G) in rw (e, next_low S, box_low S)
+pub eval_low : (a : ℕ) (g : Target) (b k : ℕ) → LowLine (Eval a g b k) → (a % 256 ≡ a) × (loc_of (target_code g) ≡ loc g) × (b % 256 ≡ b) × (k % 256 % 32 ≡ k)
+unfolding line_view children boxes_of slots_of concat bound_in ◌⧺◌
+eval_low a g b k L =
+    let s = rw (sites_behind (λ n. ltb n 32) slot g []) at L.sites_low in
+    let v = rw (variables_behind (λ n. ltb n 32) slot g [] (λ f. used_in (slot f) ⧺ bound_in (slot f)) (λ f. refl)) at L.variables_low in (
+      byte_is a (low_first 256 a _ L.children_low),
+      loc_code g (and_l _ _ s, and_l _ _ v),
+      byte_is b (low_first 256 b [] (low_rest 256 a _ L.children_low)),
+      box_is k (low_first 32 k [] L.boxes_low),
+    )
 
-  line_coded : 0 < d.kind → line_of (line_codes d) 0 ≡ Form.line_of d
-  unfolding line_good
-  line_coded h = coded d ∙ go d.kind (leb-true d.kind 8 (and_l _ _ G)) h refl
-    where
-      go : (k : ℕ) → k ≤ 8 → 0 < k → Kind k
-      go zero p q e = absurd (omega arith)
-      go (suc zero) p q e = coded_nil e
-      go (suc (suc zero)) p q e = coded_par e
-      go (suc (suc (suc zero))) p q e = coded_rep e
-      go (suc (suc (suc (suc zero)))) p q e = coded_out e
-      go (suc (suc (suc (suc (suc zero))))) p q e = coded_in e
-      go (suc (suc (suc (suc (suc (suc zero)))))) p q e = coded_read e
-      go (suc (suc (suc (suc (suc (suc (suc zero))))))) p q e = coded_eval e
-      go (suc (suc (suc (suc (suc (suc (suc (suc zero)))))))) p q e = coded_accept e
-      go (suc (suc (suc (suc (suc (suc (suc (suc (suc k))))))))) p q e = absurd (omega arith)
-
-module _ (r : RowData) (G : row_good r ≡ true) where
-  -- a Q row
-  q_kind : r.group ≡ group_q → 0 < r.line.kind
-  unfolding row_good
-  q_kind e = ltb-true 0 r.line.kind (and_l _ _ (rw e at G))
-
-  pub line_is : r.group ≡ group_q → in_limits (row_data r) ≡ true → line_of (line_codes r.line) 0 ≡ (row_data r).process
-  unfolding row_limits row_line
-  line_is e h =
-      let l = limits_are (good r G (omega arith)) ∙ h in
-      let n = and_r _ _ (and_r _ _ (and_r _ _ l)) in
-      let v = view_q r G e in
-      let w = view_some r (λ z. omega arith) in
-      let s : row_data r ≡ row_line r.own (Form.line_of r.line) = cc in
-      line_coded r.line v.1 (and_l _ _ n) (and_r _ _ n) (q_kind e) ∙ ap (λ (x : Row). x.process) (sym s)
-
-  -- the sites of a T or an A row
-  sites_of : tuple_group r.group ≡ true → (row_data r).sites ≡ r.line.target.number ∷ numbers r.line.fields
-  sites_of t =
-      let g = ltb-true 0 r.group (tuple_some r.group t) in
-      let v = (view_tuple r G t).0 in
-      let w = view_some r (λ z. omega arith) in
-      let s : row_data r ≡ row_as r.group r.size [] [] (r.line.target.number ∷ numbers r.line.fields) [] r.rights = cc in
-      ap (λ (x : Row). x.sites) s
-
-  bytes_are : (ms : List Name) → all (λ s. ltb s site_limit) (map (λ (m : Name). m.number) ms) ≡ true → map (λ (m : Name). byte_of m.number) ms ≡ map (λ (m : Name). m.number) ms
-  unfolding all
-  bytes_are [] h = refl
-  bytes_are (m ∷ ms) h =
-      let l = ltb-true m.number site_limit (and_l _ _ h) in
-      rw (byte_low m.number (omega arith), bytes_are ms (and_r _ _ h))
-
-  tuple_coded : (d : LineData) → row_at (tuple_codes d) 0 ≡ byte_of d.target.number ∷ map (λ (m : Name). byte_of m.number) (names d.fields)
-  unfolding row_at tuple_codes
-  tuple_coded d = rw add-one (ap (λ (l : List ℕ). byte_of d.target.number ∷ l) (first_codes (λ (m : Name). byte_of m.number) d.fields))
-
-  pub tuple_is : tuple_group r.group ≡ true → in_limits (row_data r) ≡ true → row_at (tuple_codes r.line) 0 ≡ (row_data r).sites
-  unfolding all
-  tuple_is t h =
-      let s = sites_of t in
-      let l : all (λ s. ltb s site_limit) (r.line.target.number ∷ numbers r.line.fields) ≡ true = rw s at (within (row_data r) h).sites_low in
-      let b = ltb-true r.line.target.number site_limit (and_l _ _ l) in
-      tuple_coded r.line ∙ rw (byte_low r.line.target.number (omega arith), bytes_are (names r.line.fields) (and_r _ _ l), s)
+-- a tuple of sites within their limit
+pub tuple_read : (t : Tuple) (n a b c d : ℕ) → take n (a ∷ b ∷ c ∷ d ∷ []) ≡ map (λ (s : SiteName). s.0 % 256) (items t.fields) → low (sites_of t) → row_at ((n + 1) ∷ t.site % 256 ∷ a ∷ b ∷ c ∷ d ∷ []) 0 ≡ sites_of t
+unfolding row_at sites_of
+tuple_read t n a b c d e h =
+    let g = low_first 32 t.site _ h in
+    let k : t.site % 256 ≡ t.site = omega arith in
+    rw (add-one n, k) (ap (λ xs. t.site ∷ xs) (e ∙ sites_read (items t.fields) (low_rest 32 t.site _ h)))

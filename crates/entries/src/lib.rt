@@ -1,17 +1,18 @@
 //! A row as the bytes of its table.
 #![tactic(auto)]
 
-ghost use Rattle.std.specs.Prelude.{◌≡◌, true, ◌-◌, ◌≤◌};
-ghost use Rattle.klaim.specs.Rows.{group_q};
+ghost use Rattle.std.specs.Prelude.{◌≡◌, true, ◌∷◌, [], ◌+◌, ◌%◌, ◌≤◌, ℕ, map, get_or, ltb};
+ghost use Rattle.sets.specs.Lists.{all};
 ghost use Rattle.klaim.specs.Reader.{in_limits};
-ghost use Rattle.forms.specs.Forms.{row_data, row_good, tuple_group};
-ghost use Rattle.tables.specs.View.{line_of, row_at};
-ghost use Rattle.entries.specs.Entries.{byte_of, code_of, count_of, line_codes, tuple_codes};
+ghost use Rattle.lines.specs.Lines.{items, line_view};
+ghost use Rattle.forms.specs.Forms.{process_data, sites_of, tuple_data};
+ghost use Rattle.tables.specs.View.{loc_of, line_by, line_of, row_at};
+ghost use Rattle.entries.specs.Entries.{target_code, field_code, coded};
 
-use forms::RowData;
-use lines::LineData;
-use tables::{FIELDS, WILDCARD_CODE};
-use text::{BINDER, Name, SITE, VARIABLE, WILDCARD};
+use forms::{Process, Tuple};
+use lines::{Fields, Get, Line};
+use tables::WILDCARD_CODE;
+use text::{Field, SiteName, Target};
 
 // Numbers that a byte can hold, and numbers of names.
 const BYTES: u16 = 256;
@@ -25,104 +26,155 @@ const VARIABLE_CODE: u8 = 64;
 
 const BINDER_CODE: u8 = 96;
 
+// A number as a byte: no number below its limit changes.
 fn byte(n: u16) -> u8
-    ensures { result ≡ byte_of n }
+    ensures { result ≡ n % 256 }
 {
     (n % BYTES) as u8
 }
 
-// A name as a byte.
-fn code(name: Name) -> u8
-    ensures { result ≡ code_of name }
+// The same of the number of a name.
+fn low(n: u16) -> u8
+    ensures { result ≡ n % 32 }
 {
-    let kind = name.kind;
-    let number = (name.number % NUMBERS) as u8;
-    if kind == SITE {
-        return number;
-    }
-    if kind == VARIABLE {
-        return VARIABLE_CODE + number;
-    }
-    if kind == BINDER {
-        return BINDER_CODE + number;
-    }
-    if kind == WILDCARD {
-        return WILDCARD_CODE;
-    }
-    SELF_CODE
+    (n % NUMBERS) as u8
 }
 
-// How many fields, as a byte.
-fn count(n: usize) -> u8
-    ensures { (result ≡ count_of n) × (result ≤ 4) }
-{
-    if n < FIELDS {
-        return n as u8;
+// What stands in the tables for a target or a field.
+trait Coded: Copy {
+    ghost code: { Self → ℕ };
+
+    fn code(self) -> u8
+        ensures { result ≡ code self };
+}
+
+impl Coded for SiteName {
+    ghost code = { λ s. s.0 % 256 };
+
+    fn code(self) -> u8 {
+        byte(self.0)
     }
-    FIELDS as u8
 }
 
-// The kind of a line, counted from 0.
-fn word(kind: u8) -> u8
-    ensures { result ≡ kind - 1 }
-{
-    if kind == 0 {
-        return 0;
+impl Coded for Target {
+    ghost code = { target_code };
+
+    fn code(self) -> u8 {
+        match self {
+            Target::Site(s) => low(s),
+            Target::Here => SELF_CODE,
+            Target::Variable(u) => VARIABLE_CODE + low(u),
+        }
     }
-    kind - 1
 }
 
-fn line_codes(line: LineData) -> [u8; 10]
-    ensures { result ≡ line_codes line }
-{
-    let fields = line.fields;
-    let kind = word(line.kind);
-    let next = byte(line.next);
-    let other = byte(line.other);
-    let sandbox = byte(line.sandbox);
-    let target = code(line.target);
-    let n = count(fields.count);
-    let a = code(fields.a);
-    let b = code(fields.b);
-    let c = code(fields.c);
-    let d = code(fields.d);
-    [kind, next, other, sandbox, target, n, a, b, c, d]
+impl Coded for Field {
+    ghost code = { field_code };
+
+    fn code(self) -> u8 {
+        match self {
+            Field::Value(target) => target.code(),
+            Field::Binder(u) => BINDER_CODE + low(u),
+            Field::Wildcard => WILDCARD_CODE,
+        }
+    }
 }
 
-fn tuple_codes(line: LineData) -> [u8; 6]
-    ensures { result ≡ tuple_codes line }
+// How many fields, and their codes.
+fn codes<T: Coded>(fields: &Fields<T>) -> [u8; 5]
+    ensures codes { coded result ≡ map T.code (items fields.now) }
+    ensures few { get_or result 0 0 ≤ 4 }
 {
-    let fields = line.fields;
-    let target = line.target;
-    let first = fields.a;
-    let second = fields.b;
-    let third = fields.c;
-    let fourth = fields.d;
-    let n = count(fields.count);
-    let s = byte(target.number);
-    let a = byte(first.number);
-    let b = byte(second.number);
-    let c = byte(third.number);
-    let d = byte(fourth.number);
-    [n + 1, s, a, b, c, d]
+    match fields {
+        Fields::One([a]) => [1, a.code(), 0, 0, 0],
+        Fields::Two([a, b]) => [2, a.code(), b.code(), 0, 0],
+        Fields::Three([a, b, c]) => [3, a.code(), b.code(), c.code(), 0],
+        Fields::Four([a, b, c, d]) => [4, a.code(), b.code(), c.code(), d.code()],
+    }
+}
+
+// The kinds of lines, counted from 0.
+const NIL: u8 = 0;
+
+const PAR: u8 = 1;
+
+const REP: u8 = 2;
+
+const OUT: u8 = 3;
+
+const IN: u8 = 4;
+
+const READ: u8 = 5;
+
+const EVAL: u8 = 6;
+
+const ACCEPT: u8 = 7;
+
+// A line of `in` or `read`.
+fn get_bytes(kind: u8, get: &Get) -> [u8; 10]
+    ensures { line_of result 0 ≡ line_by kind (get.now.next % 256) 0 0 (loc_of (target_code get.now.target)) (map field_code (items get.now.fields)) }
+{
+    let target = get.target.code();
+    let [n, a, b, c, d] = codes(&get.fields);
+    [kind, byte(get.next), 0, 0, target, n, a, b, c, d]
 }
 
 // The line of a Q row as it stands in the table of lines.
-pub fn line_bytes(row: RowData) -> [u8; 10]
-    requires row_value { row_good row ≡ true }
-    requires group_value { row.group ≡ group_q }
-    requires row_value_2 { in_limits (row_data row) ≡ true }
-    ensures { line_of result 0 ≡ (row_data row).process }
+pub fn line_bytes(process: &Process) -> [u8; 10]
+    requires { in_limits (process_data process.now) ≡ true }
+    ensures { line_of result 0 ≡ line_view process.now.line }
 {
-    line_codes(row.line)
+    match &process.line {
+        Line::Nil => [NIL, 0, 0, 0, 0, 0, 0, 0, 0, 0],
+        Line::Par { next, second } => [PAR, byte(*next), byte(*second), 0, 0, 0, 0, 0, 0, 0],
+        Line::Rep { next } => [REP, byte(*next), 0, 0, 0, 0, 0, 0, 0, 0],
+        Line::Out {
+            next,
+            target,
+            fields,
+        } => {
+            let [n, a, b, c, d] = codes(fields);
+            [OUT, byte(*next), 0, 0, target.code(), n, a, b, c, d]
+        }
+        Line::In(get) => get_bytes(IN, get),
+        Line::Read(get) => get_bytes(READ, get),
+        Line::Eval {
+            next,
+            target,
+            body,
+            sandbox,
+        } => [
+            EVAL,
+            byte(*next),
+            byte(*body),
+            byte(*sandbox),
+            target.code(),
+            0,
+            0,
+            0,
+            0,
+            0,
+        ],
+        Line::Accept { next, sandbox } => [
+            ACCEPT,
+            byte(*next),
+            0,
+            byte(*sandbox),
+            0,
+            0,
+            0,
+            0,
+            0,
+            0,
+        ],
+    }
 }
 
 // The sites of a T or an A row as they stand in the table of tuples.
-pub fn tuple_bytes(row: RowData) -> [u8; 6]
-    requires row_value { row_good row ≡ true }
-    requires group_value { tuple_group row.group ≡ true }
-    requires row_value_2 { in_limits (row_data row) ≡ true }
-    ensures { row_at result 0 ≡ (row_data row).sites }
+pub fn tuple_bytes(tuple: &Tuple) -> [u8; 6]
+    requires { all (λ s. ltb s 32) (sites_of tuple.now) ≡ true }
+    ensures { row_at result 0 ≡ sites_of tuple.now }
 {
-    tuple_codes(row.line)
+    let [n, a, b, c, d] = codes(&tuple.fields);
+    [n + 1, byte(tuple.site), a, b, c, d]
 }

@@ -1,14 +1,15 @@
 -- What a reader of an estimate keeps of the rows above.
 -- Assumes nothing.
-use Rattle.std.specs.Prelude.{◌≡◌, Bool, true, false, List, map, ℕ, ◌<◌, ◌^◌, eqb, leb}
+use Rattle.std.specs.Prelude.{◌≡◌, Bool, true, false, List, map, ℕ, ◌^◌, eqb, leb}
 use Rattle.sets.specs.Lists.{All, ◌&◌}
 use Rattle.klaim.specs.Limits.{tuple_limit}
 use Rattle.klaim.specs.Rows.{Row, group_b, group_a, group_e}
 use Rattle.klaim.specs.Reader.{Text, an_estimate, in_limits, of_group, own, in_order, gather, pair_place, nth}
 use Rattle.tables.specs.View.{rows_view}
-use Rattle.forms.specs.declared.RowData.{RowData}
+use Rattle.forms.specs.declared.rows.Row as Form
 use Rattle.forms.specs.Forms.{row_data}
 use Rattle.scan.specs.declared.Tally.{Tally}
+use Rattle.scan.specs.Tallies.{last_number}
 use Rattle.repeats.specs.Kept.{Kept, KeysAre}
 use Rattle.estimates.specs.declared.reading.EstimateReader.{EstimateReader}
 
@@ -23,7 +24,7 @@ pub record EstimateTables (above : List Row) (r : EstimateReader) (t : Tally) : 
 pub record EstimateTally (n : ℕ) (above : List Row) (t : Tally) : Type 0 where
   pub kept : All Kept above
   pub owned : All (λ r. own (an_estimate n) r.group ≡ true) above
-  pub order : (r : Row) → in_order above r ≡ leb t.last r.group
+  pub order : (r : Row) → in_order above r ≡ leb (last_number t.last) r.group
   pub size_is : t.size ≡ n
 
 -- the rows above, of an estimate for the n that was given, are held
@@ -39,11 +40,10 @@ full_of g t = eqb g group_a & leb tuple_limit t.tuples
 
 -- 3, but for repeats: no foreign row, groups in order
 unfoldable pub placed_of : ℕ → Tally → Bool
-placed_of g t = leb group_b g & leb t.last g
+placed_of g t = leb group_b g & leb (last_number t.last) g
 
--- a row that has a form, is within limits and stands in its place
-pub record Passed (row : RowData) (t : Tally) : Type 0 where
-  pub some : 0 < row.group
+-- a row that 2 and the order let through
+pub record Passed (row : Form.Row) (t : Tally) : Type 0 where
   pub low : in_limits (row_data row) ≡ true
-  pub room : full_of row.group t ≡ false
-  pub placed : placed_of row.group t ≡ true
+  pub room : full_of (row_data row).group t ≡ false
+  pub placed : placed_of (row_data row).group t ≡ true

@@ -1,118 +1,102 @@
 //! An estimate, read from its bytes.
 #![tactic(auto)]
 
-ghost use Rattle.std.specs.Prelude.{◌≡◌, true, List, [], ◌∷◌, ◌++◌, ◌<◌, OnOk};
-ghost use Rattle.klaim.specs.Rows.{Row, group_e};
-ghost use Rattle.klaim.specs.Reader.{Text, an_estimate, judge, repeated, estimate_of, read_estimate};
+ghost use Rattle.std.specs.Prelude.{◌≡◌, true, List, [], ◌∷◌, ◌++◌, ◌<◌, eqb, leb, OnOk};
+ghost use Rattle.klaim.specs.Rows as Spec;
+ghost use Rattle.klaim.specs.Rows.{group_b, group_a};
+ghost use Rattle.klaim.specs.Reader.{Text, an_estimate, judge, in_limits, repeated, estimate_of, read_estimate};
 ghost use Rattle.klaim.specs.Refusals.{answer_of};
+ghost use Rattle.std.proofs.Math.Option.{some};
 ghost use Rattle.tables.specs.View.{estimate_view};
-ghost use Rattle.forms.specs.Forms.{row_view, row_data, row_good};
+ghost use Rattle.forms.specs.Forms.{group_number, row_data};
 ghost use Rattle.scan.specs.Reasons.{judged_by};
 ghost use Rattle.scan.specs.Tallies.{counted_of};
 ghost use Rattle.estimates.specs.Rows.{EstimateTables, EstimateHolds, Passed, full_of, placed_of};
 
 mod reading;
 
-use forms::RowData;
+use forms::{Group, Row};
 use klaim::{Reason, Refusal};
 use reading::EstimateReader;
 use scan::{Reader, Tally};
 use tables::{Estimate, TUPLES};
-use text::{GROUP_A, GROUP_B, GROUP_E};
+
+// Whether a group is that of the tuples, and whether it is one of an estimate's.
+fn is_tuples(group: Group) -> bool
+    ensures { result ≡ eqb (group_number group) group_a }
+{
+    group == Group::A
+}
+
+fn is_own(group: Group) -> bool
+    ensures { result ≡ leb group_b (group_number group) }
+{
+    Group::B <= group
+}
 
 impl EstimateReader {
-    // Nothing is read; n is that of the net.
-    fn new(n: u8) -> EstimateReader
-        ensures { EstimateHolds (an_estimate n) [] result }
-    {
-        EstimateReader {
-            binds: [0; 32],
-            stand: [0; 1536],
-            keys: [0; 256],
-            hold: [0; 1024],
-            tally: Tally::start(n),
-        }
-    }
-
     // Whether no row of this group may follow.
-    fn is_full(&self, group: u8) -> bool
-        ensures { result ≡ full_of group self.now.tally }
+    fn is_full(&self, group: Group) -> bool
+        ensures { result ≡ full_of (group_number group) self.now.tally }
     {
         // `&` has no branch, so that the proof has one path.
-        (group == GROUP_A) & (TUPLES <= self.tally.tuples)
+        is_tuples(group) & (TUPLES <= self.tally.tuples)
     }
 
     // Whether a row of this group may follow the rows above.
-    fn is_placed(&self, group: u8) -> bool
-        ensures { result ≡ placed_of group self.now.tally }
+    fn is_placed(&self, group: Group) -> bool
+        ensures { result ≡ placed_of (group_number group) self.now.tally }
     {
-        (GROUP_B <= group) & (self.tally.last <= group)
+        is_own(group) & self.tally.in_order(group)
     }
 
-    // Whether the row, a B or an A row, stands above.
-    fn is_seen(&self, row: RowData) -> bool
-        requires row_value { row_good row ≡ true }
-        requires passed { Passed row self.now.tally }
-        requires fact { row.group ≡ group_e → ⊥ }
-        ensures { (t : Text) (above : List Row) → EstimateHolds t above self.now → result ≡ repeated above (row_data row) }
+    // Whether the row stands above.
+    fn is_seen(&self, row: &Row) -> bool
+        requires low { in_limits (row_data row.now) ≡ true }
+        requires placed { placed_of (row_data row.now).group self.now.tally ≡ true }
+        ensures { (t : Text) (above : List Spec.Row) → EstimateHolds t above self.now → result ≡ repeated above (row_data row.now) }
     {
-        if row.group == GROUP_B {
-            repeats::bound_seen(&self.binds, row)
-        } else {
-            repeats::tuple_seen(&self.keys, self.tally.tuples, row)
+        match row {
+            Row::B(bound) => repeats::bound_seen(&self.binds, bound),
+            Row::A(tuple) => repeats::tuple_seen(&self.keys, self.tally.tuples, tuple),
+            Row::E(pair) => repeats::pair_seen(&self.hold, pair),
+            _ => false,
         }
-    }
-
-    // Whether an E row is let through.
-    fn admits_pair(&self, row: RowData) -> Result<(), Reason>
-        requires row_value { row_good row ≡ true }
-        requires group_value { row.group ≡ group_e }
-        ensures judged { (t : Text) (above : List Row) → EstimateHolds t above self.now → judge t above (row_view row) ≡ judged_by result (row_data row) }
-        ensures passed { OnOk result (Passed row self.now.tally) }
-    {
-        scan::early_pair(row, false, self.is_placed(GROUP_E))?;
-        if repeats::pair_seen(&self.hold, row) {
-            return Err(Reason::Place);
-        }
-        scan::sited_pair(row, self.tally.size)
     }
 
     // Whether the row is let through.
-    fn admits(&self, row: RowData) -> Result<(), Reason>
-        requires { row_good row ≡ true }
-        ensures judged { (t : Text) (above : List Row) → EstimateHolds t above self.now → judge t above (row_view row) ≡ judged_by result (row_data row) }
-        ensures passed { OnOk result (Passed row self.now.tally) }
+    fn admits(&self, row: &Row) -> Result<(), Reason>
+        ensures judged { (t : Text) (above : List Spec.Row) → EstimateHolds t above self.now → judge t above (some (row_data row.now)) ≡ judged_by result (row_data row.now) }
+        ensures passed { OnOk result (Passed row.now self.now.tally) }
     {
-        if row.group == GROUP_E {
-            return self.admits_pair(row);
-        }
-        scan::early(row, self.is_full(row.group), self.is_placed(row.group))?;
+        let group = row.group();
+        scan::early(row, self.is_full(group), self.is_placed(group))?;
         if self.is_seen(row) {
             return Err(Reason::Place);
         }
-        scan::sited(row, self.tally.size)
+        scan::late(row, self.tally.size)
     }
 
     // The row put into its table, and not counted yet.
-    fn put(&mut self, row: RowData)
-        requires row_value { row_good row ≡ true }
-        requires passed { Passed row self.old.tally }
+    fn put(&mut self, row: &Row)
+        requires { Passed row.now self.old.tally }
         ensures tally_same { self.new.tally ≡ self.old.tally }
-        ensures tables { (above : List Row) → EstimateTables above self.old self.old.tally → EstimateTables (above ++ (row_data row ∷ [])) self.new (counted_of row self.old.tally) }
+        ensures tables { (above : List Spec.Row) → EstimateTables above self.old self.old.tally → EstimateTables (above ++ (row_data row.now ∷ [])) self.new (counted_of row.now self.old.tally) }
     {
-        match row.group {
-            GROUP_B => stores::put_bound(&mut self.binds, row),
-            GROUP_A => {
-                stores::put_row(&mut self.stand, self.tally.tuples, row);
-                repeats::keep_key(&mut self.keys, self.tally.tuples, row);
+        match row {
+            Row::B(bound) => stores::put_bound(&mut self.binds, bound),
+            Row::A(tuple) => {
+                stores::put_row(&mut self.stand, self.tally.tuples, tuple);
+                repeats::keep_key(&mut self.keys, self.tally.tuples, tuple);
             }
-            _ => stores::put_pair(&mut self.hold, row),
+            Row::E(pair) => stores::put_pair(&mut self.hold, pair),
+            _ => {}
         }
     }
 
     // The estimate that is read.
     fn finish(&self) -> Estimate
-        ensures { (t : Text) (rows : List Row) → EstimateHolds t rows self.now → estimate_view result ≡ estimate_of rows }
+        ensures { (t : Text) (rows : List Spec.Row) → EstimateHolds t rows self.now → estimate_view result ≡ estimate_of rows }
     {
         Estimate {
             binds: self.binds,
@@ -126,7 +110,7 @@ impl EstimateReader {
 impl Reader for EstimateReader {
     ghost holds = { EstimateHolds };
 
-    fn take(&mut self, row: RowData) -> Result<(), Reason> {
+    fn take(&mut self, row: &Row) -> Result<(), Reason> {
         self.admits(row)?;
         self.put(row);
         self.tally.count(row);
@@ -138,7 +122,14 @@ impl Reader for EstimateReader {
 pub fn read_estimate(n: u8, s: &[u8]) -> Result<Estimate, Refusal>
     ensures { answer_of estimate_view result ≡ read_estimate n s.now }
 {
-    let mut reader = EstimateReader::new(n);
+    // Made in its place, as a net's.
+    let mut reader = EstimateReader {
+        binds: [0; 32],
+        stand: [0; 1536],
+        keys: [0; 256],
+        hold: [0; 1024],
+        tally: Tally::start(n),
+    };
     scan::read(&mut reader, s)?;
     Ok(reader.finish())
 }

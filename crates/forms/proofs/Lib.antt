@@ -1,2 +1,2 @@
 pub mod RowForms
-pub mod Views
+pub mod Groups

@@ -1,19 +1,15 @@
 //! Many cases in one text: for each a row with its length in bytes as a decimal number, then exactly that many bytes.
 #![tactic(auto)]
 
-ghost use Rattle.std.specs.Prelude.{◌≡◌, ◌<◌, ◌≤◌, length};
+ghost use Rattle.std.specs.Prelude.{◌≡◌, ◌<◌, ◌≤◌, length, IfSome};
 
-// Room for all cases. A function of its own keeps the zeros out of what is to be proved of a program.
+use std::io::{Read, Write};
+use std::ops::Range;
+use streams::Failure;
+
+// Room for all cases. A function of its own keeps the zeros out of what is to be proved of its caller.
 pub fn room() -> [u8; 2097152] {
     [0; 2097152]
-}
-
-// Where a case begins and ends; none, where the frame is broken.
-#[derive(Clone, Copy)]
-pub struct Frame {
-    pub good: bool,
-    pub from: usize,
-    pub end: usize,
 }
 
 // Where the row that begins at `at` ends; at the end of the bytes, where no 0A ends it.
@@ -24,38 +20,53 @@ pub fn row_end(input: &[u8], at: usize) -> usize
     text::row_end(input, at)
 }
 
-// A broken frame: what is left, to the end, is no case.
-fn broken(end: usize) -> Frame
-    ensures { (result.from ≡ end) × (result.end ≡ end) }
-{
-    Frame {
-        good: false,
-        from: end,
-        end,
-    }
-}
-
-// The case whose frame begins at `at`.
-pub fn next(input: &[u8], at: usize) -> Frame
+// Where the case begins and ends whose frame begins at `at`; none, where the frame is broken.
+pub fn next(input: &[u8], at: usize) -> Option<Range<usize>>
     requires { at < length input.now }
-    ensures { (at < result.from) × (result.from ≤ result.end) × (result.end ≤ length input.now) }
+    ensures { IfSome result (λ case. (at < case.start) × (case.start ≤ case.end) × (case.end ≤ length input.now)) }
 {
     let end = row_end(input, at);
     if end == input.len() {
-        return broken(end);
+        return None;
     }
     let from = end + 1;
-    let length = text::decimal(&input[at..end]);
-    if !length.is {
-        return broken(input.len());
-    }
-    let size = length.value;
+    let size = text::decimal(&input[at..end])?;
     if input.len() - from < size {
-        return broken(input.len());
+        return None;
     }
-    Frame {
-        good: true,
-        from,
-        end: from + size,
+    Some(from..from + size)
+}
+
+// Every case in turn: its row, and what the work on it prints; a broken frame ends the run.
+fn each_case<W, F>(output: &mut W, input: &mut [u8], work: F) -> Result<(), Failure>
+where
+    W: Write,
+    F: Fn(&mut W, &mut [u8]) -> Result<(), Failure>,
+    requires { F.IsAlwaysCallable work }
+{
+    let mut at: usize = 0;
+    let mut k: usize = 0;
+    while at < input.len() {
+        let Some(case) = next(input, at) else {
+            return answers::say_broken(output).map_err(Failure::Unwritten);
+        };
+        answers::say_count(output, b"case,", k).map_err(Failure::Unwritten)?;
+        at = case.end;
+        work(output, &mut input[case.start..at])?;
+        k += 1;
     }
+    Ok(())
+}
+
+// Reads the cases, and does the work on each.
+pub fn run<R, W, F>(input: &mut R, output: &mut W, work: F) -> Result<(), Failure>
+where
+    R: Read,
+    W: Write,
+    F: Fn(&mut W, &mut [u8]) -> Result<(), Failure>,
+    requires { F.IsAlwaysCallable work }
+{
+    let mut buffer = room();
+    let n = streams::read_full(input, &mut buffer)?;
+    each_case(output, &mut buffer[..n], work)
 }

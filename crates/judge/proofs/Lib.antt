@@ -1,3 +1,4 @@
 pub mod Tests
-pub mod Names
+pub mod Lines
+pub mod Rows
 pub mod Limits

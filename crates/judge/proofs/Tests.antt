@@ -1,11 +1,12 @@
 -- Laws of tests over a list.
 -- Assumes nothing.
 use mathlib.Core.Path.{◌≡◌, refl, sym, ap, ◌∙◌}
-use mathlib.Core.Bool.{Bool, true, false, not}
+use mathlib.Core.Bool.{Bool, true, false, not, ◌&&◌}
 use mathlib.Core.List.{List, [], ◌∷◌}
 use Prim.Native.Nat.{ℕ}
 use lib.Dec.{leb, ltb}
 use borrow.Author.Tests.{leb-true, le-ltb, lt-ltb}
+use Rattle.std.specs.List.{list_all}
 use Rattle.sets.specs.Lists.{◌&◌, either, imp, all, any, only, concat, ◌⧺◌}
 use Rattle.sets.proofs.Lists.{and_l, and_r, nleb_lt, and_true, and_assoc}
 
@@ -18,6 +19,16 @@ cross true false false d = refl
 cross false b c d = refl
 
 module _ {A : Type 0} where
+  -- the library's test of a list
+  pub all_list : (f : A → Bool) (xs : List A) → list_all f xs ≡ all f xs
+  unfolding all ◌&◌
+  all_list f [] = refl
+  all_list f (x ∷ xs) = go (f x) (all_list f xs)
+    where
+      go : (t : Bool) {p q : Bool} → p ≡ q → (t && p) ≡ (t & q)
+      go true e = e
+      go false e = refl
+
   pub all_cat : (f : A → Bool) (xs ys : List A) → all f (xs ⧺ ys) ≡ all f xs & all f ys
   unfolding all ◌⧺◌ ◌&◌
   all_cat f [] ys = refl
@@ -53,3 +64,12 @@ none_reaches n (x ∷ xs) = go (leb n x) refl (none_reaches n xs)
     go : (b : Bool) → leb n x ≡ b → not (any (λ s. leb n s) xs) ≡ all (λ s. ltb s n) xs → not (either (leb n x) (any (λ s. leb n s) xs)) ≡ ltb x n & all (λ s. ltb s n) xs
     go true e r = rw (e, le-ltb x n (leb-true n x e))
     go false e r = rw (e, lt-ltb x n (nleb_lt n x e)) r
+
+-- two tests, the second made where the first holds
+pub both_yes : {a b x y : Bool} → a ≡ true → a ≡ x → b ≡ y → b ≡ (x & y)
+unfolding ◌&◌
+both_yes h e f = rw (← e, h) f
+
+pub both_no : {a x : Bool} (y : Bool) → a ≡ false → a ≡ x → a ≡ (x & y)
+unfolding ◌&◌
+both_no y h e = rw (← e, h) refl

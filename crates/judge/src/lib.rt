@@ -1,169 +1,222 @@
-//! The tests of a row that need no other row: its limits, its sites, its template.
+//! The tests of a row that need no other row: its limits and its sites.
 #![tactic(auto)]
 
-ghost use Rattle.std.specs.Prelude.{◌≡◌, true, not, ◌<◌};
-ghost use Rattle.sets.specs.Lists.{all};
+ghost use Rattle.std.specs.Prelude.{◌≡◌, List, [], ◌∷◌, not, ltb, ℕ};
+ghost use Rattle.sets.specs.Lists.{all, concat, ◌⧺◌};
+ghost use Rattle.klaim.specs.Limits.{box_limit, var_limit, line_limit};
+ghost use Rattle.klaim.specs.declared.Slot.TheVariants.{Value};
+ghost use Rattle.klaim.specs.Process.{boxes_of, children, sites_in, used_in, bound_in, slots_of};
 ghost use Rattle.klaim.specs.Reader.{in_limits, absent};
-ghost use Rattle.lines.specs.Lines.{names};
-ghost use Rattle.forms.specs.Forms.{row_data, row_good, pair_group};
-ghost use Rattle.judge.specs.Judge.{first_of, low_number, low_name, low_names, low_numbers, low_size, low_variable};
+ghost use Rattle.text.specs.Fields.{loc, slot, sites_to};
+ghost use Rattle.lines.specs.Lines.{items, line_view};
+ghost use Rattle.forms.specs.Forms.{process_data, row_data, sites_of};
 
-use forms::RowData;
-use lines::{Four, LineData};
-use text::{BINDER, GROUP_N, GROUP_Q, NO_NUMBER, NOTHING, Name, SELF, SITE};
+use forms::{Pair, Process, Row, Tuple};
+use lines::{Fields, Line};
+use text::{Field, SiteName, Target, Toward};
 
 // The limits of document 01: of sites, variables and sandboxes, and of lines.
 const NUMBERS: u16 = 32;
 
 const LINES: u16 = 256;
 
-// Whether the first n of four hold.
-pub fn every(n: usize, a: bool, b: bool, c: bool, d: bool) -> bool
-    ensures { result ≡ first_of n a b c d }
-{
-    match n {
-        0 => true,
-        1 => a,
-        2 => sets::both(a, b),
-        3 => sets::both(a, sets::both(b, c)),
-        _ => sets::both(a, sets::both(b, sets::both(c, d))),
+// The sites and the variables that a target or a field has.
+trait Numbered: Copy {
+    ghost sites: { Self → List ℕ };
+
+    ghost variables: { Self → List ℕ };
+
+    fn low_site(self, n: u16) -> bool
+        ensures { result ≡ all (λ s. ltb s n) (sites self) };
+
+    fn low_variable(self) -> bool
+        ensures { result ≡ all (λ u. ltb u var_limit) (variables self) };
+}
+
+impl Numbered for SiteName {
+    ghost sites = { λ s. s.0 ∷ [] };
+
+    ghost variables = { λ s. [] };
+
+    fn low_site(self, n: u16) -> bool {
+        self.0 < n
+    }
+
+    fn low_variable(self) -> bool {
+        true
     }
 }
 
-// Whether a number is below its limit, if there is one.
-fn held(n: u16, limit: u16) -> bool
-    ensures { result ≡ low_number limit n }
-{
-    if NO_NUMBER <= n {
-        return true;
+impl Numbered for Target {
+    ghost sites = { λ t. sites_in (Value (loc t)) };
+
+    ghost variables = { λ t. used_in (Value (loc t)) ⧺ [] };
+
+    fn low_site(self, n: u16) -> bool {
+        match self {
+            Target::Site(s) => s < n,
+            Target::Here => true,
+            Target::Variable(_) => true,
+        }
     }
-    n < limit
+
+    fn low_variable(self) -> bool {
+        match self {
+            Target::Variable(u) => u < NUMBERS,
+            Target::Site(_) => true,
+            Target::Here => true,
+        }
+    }
 }
 
-// Whether the number of a name of the kinds up to `most` is below its limit.
-fn low(name: Name, most: u8, limit: u16) -> bool
-    ensures { result ≡ low_name most limit name }
-{
-    let kind = name.kind;
-    let number = name.number;
-    if kind == NOTHING {
-        return true;
+impl Numbered for Field {
+    ghost sites = { λ f. sites_in (slot f) };
+
+    ghost variables = { λ f. used_in (slot f) ⧺ bound_in (slot f) };
+
+    fn low_site(self, n: u16) -> bool {
+        match self {
+            Field::Value(target) => target.low_site(n),
+            Field::Binder(_) => true,
+            Field::Wildcard => true,
+        }
     }
-    if kind == SELF {
-        return true;
+
+    fn low_variable(self) -> bool {
+        match self {
+            Field::Value(target) => target.low_variable(),
+            Field::Binder(u) => u < NUMBERS,
+            Field::Wildcard => true,
+        }
     }
-    if most < kind {
-        return true;
-    }
-    number < limit
 }
 
-// Whether each field is low. Most rows have one or none.
-fn low_fields(f: Four, most: u8, limit: u16) -> bool
-    ensures { result ≡ all (low_name most limit) (names f) }
+// The same of all fields.
+fn low_sites_of<T: Numbered>(fields: &Fields<T>, n: u16) -> bool
+    ensures { result ≡ all (λ s. ltb s n) (concat T.sites (items fields.now)) }
 {
-    let n = f.count;
-    if n == 0 {
-        return true;
+    fields.as_slice().iter().all(|f| f.low_site(n))
+}
+
+fn low_variables_of<T: Numbered>(fields: &Fields<T>) -> bool
+    ensures { result ≡ all (λ u. ltb u var_limit) (concat T.variables (items fields.now)) }
+{
+    fields.as_slice().iter().all(|f| f.low_variable())
+}
+
+// The numbers of a line, in the order of the limits: its sandbox, its variables, its sites, its children.
+fn low_box(line: &Line) -> bool
+    ensures { result ≡ all (λ k. ltb k box_limit) (boxes_of (line_view line.now)) }
+{
+    match line {
+        Line::Eval { sandbox, .. } | Line::Accept { sandbox, .. } => *sandbox < NUMBERS,
+        _ => true,
     }
-    let a = low(f.a, most, limit);
-    if n == 1 {
-        return a;
+}
+
+fn low_variables(line: &Line) -> bool
+    ensures { result ≡ all (λ u. ltb u var_limit) (concat used_in (slots_of (line_view line.now)) ⧺ concat bound_in (slots_of (line_view line.now))) }
+{
+    match line {
+        Line::Out { target, fields, .. } => target.low_variable() && low_variables_of(fields),
+        Line::In(get) | Line::Read(get) => {
+            get.target.low_variable() && low_variables_of(&get.fields)
+        }
+        Line::Eval { target, .. } => target.low_variable(),
+        _ => true,
     }
-    let b = low(f.b, most, limit);
-    let c = low(f.c, most, limit);
-    let d = low(f.d, most, limit);
-    every(n, a, b, c, d)
 }
 
-fn low_names(line: LineData, most: u8, limit: u16) -> bool
-    ensures { result ≡ low_names most limit line }
+fn low_line(line: &Line, n: u16) -> bool
+    ensures { result ≡ all (λ s. ltb s n) (concat sites_in (slots_of (line_view line.now))) }
 {
-    let target = low(line.target, most, limit);
-    sets::both(target, low_fields(line.fields, most, limit))
-}
-
-fn low_numbers(line: LineData) -> bool
-    ensures { result ≡ low_numbers line }
-{
-    let next = held(line.next, LINES);
-    let other = held(line.other, LINES);
-    let sandbox = held(line.sandbox, NUMBERS);
-    sets::both(next, sets::both(other, sandbox))
-}
-
-// Whether the n of an N row is within its limit.
-fn low_size(group: u8, n: u16) -> bool
-    ensures { result ≡ low_size group n }
-{
-    if group != GROUP_N {
-        return true;
+    match line {
+        Line::Out { target, fields, .. } => target.low_site(n) && low_sites_of(fields, n),
+        Line::In(get) | Line::Read(get) => get.target.low_site(n) && low_sites_of(&get.fields, n),
+        Line::Eval { target, .. } => target.low_site(n),
+        _ => true,
     }
-    if n < 1 {
-        return false;
+}
+
+fn low_children(line: &Line) -> bool
+    ensures { result ≡ all (λ q. ltb q line_limit) (children (line_view line.now)) }
+{
+    match line {
+        Line::Nil => true,
+        Line::Par { next, second } => *next < LINES && *second < LINES,
+        Line::Eval { next, body, .. } => *next < LINES && *body < LINES,
+        Line::In(get) | Line::Read(get) => get.next < LINES,
+        Line::Rep { next } | Line::Out { next, .. } | Line::Accept { next, .. } => *next < LINES,
     }
-    n <= NUMBERS
 }
 
-// Whether the variable of a row that is no Q row is below its limit, if there is one.
-fn low_variable(group: u8, u: u16) -> bool
-    ensures { result ≡ low_variable group u }
+// Whether both sites of an R or an E row are below n.
+fn low_pair(pair: &Pair, n: u16) -> bool
+    ensures { result ≡ all (λ s. ltb s n) (pair.now.from ∷ pair.now.to ∷ []) }
 {
-    if group == GROUP_Q {
-        return true;
-    }
-    held(u, NUMBERS)
-}
-
-// 2: whether each number of a row is within its limit.
-pub fn in_limits(row: RowData) -> bool
-    requires row_value { row_good row ≡ true }
-    requires group_nonzero { 0 < row.group }
-    ensures { result ≡ in_limits (row_data row) }
-{
-    let size = low_size(row.group, row.size);
-    let variable = low_variable(row.group, row.variable);
-    let own = held(row.own, LINES);
-    let numbers = low_numbers(row.line);
-    let named = low_names(row.line, BINDER, NUMBERS);
-    sets::both(
-        size,
-        sets::both(variable, sets::both(own, sets::both(numbers, named))),
-    )
-}
-
-// 4: whether both sites of an R or an E row are below n. As `low_sites`, and faster: such a row has nothing else.
-pub fn low_pair(row: RowData, n: u16) -> bool
-    requires row_value { row_good row ≡ true }
-    requires group_value { pair_group row.group ≡ true }
-    ensures { result ≡ not (absent n (row_data row)) }
-{
-    let line = row.line;
-    let fields = line.fields;
-    let from = line.target;
-    let to = fields.a;
-    let s = from.number;
-    let t = to.number;
+    let s = pair.from;
+    let t = pair.to;
     if s < n {
         return t < n;
     }
     false
 }
 
-// 2: whether both sites of an R or an E row are within their limit.
-pub fn pair_in_limits(row: RowData) -> bool
-    requires row_value { row_good row ≡ true }
-    requires group_value { pair_group row.group ≡ true }
-    ensures { result ≡ in_limits (row_data row) }
+// Whether the site of a D row is below n, if it has one.
+fn low_toward(toward: Toward, n: u16) -> bool
+    ensures { result ≡ all (λ s. ltb s n) (sites_to toward) }
 {
-    low_pair(row, NUMBERS)
+    match toward {
+        Toward::Site(s) => s < n,
+        Toward::Own => true,
+    }
+}
+
+// Whether the sites of a T or an A row are below n.
+fn low_tuple(tuple: &Tuple, n: u16) -> bool
+    ensures { result ≡ all (λ s. ltb s n) (sites_of tuple.now) }
+{
+    tuple.site < n && low_sites_of(&tuple.fields, n)
+}
+
+// The same of a Q row.
+fn low_process(process: &Process) -> bool
+    ensures { result ≡ in_limits (process_data process.now) }
+{
+    let line = &process.line;
+    low_box(line)
+        && low_variables(line)
+        && low_line(line, NUMBERS)
+        && process.number < LINES
+        && low_children(line)
+}
+
+// 2: whether each number of a row is within its limit.
+pub fn in_limits(row: &Row) -> bool
+    ensures { result ≡ in_limits (row_data row.now) }
+{
+    match row {
+        Row::N(n) => 1 <= *n && *n <= NUMBERS,
+        Row::R(pair) | Row::E(pair) => low_pair(pair, NUMBERS),
+        Row::D(sandbox) => sandbox.number < NUMBERS && low_toward(sandbox.toward, NUMBERS),
+        Row::T(tuple) | Row::A(tuple) => low_tuple(tuple, NUMBERS),
+        Row::L(root) => root.site < NUMBERS && root.line < LINES,
+        Row::Q(process) => low_process(process),
+        Row::B(bound) => bound.variable < NUMBERS && bound.site < NUMBERS,
+    }
 }
 
 // 4: whether each site of a row is below n.
-pub fn low_sites(row: RowData, n: u16) -> bool
-    requires row_value { row_good row ≡ true }
-    requires group_nonzero { 0 < row.group }
-    ensures { result ≡ not (absent n (row_data row)) }
+pub fn low_sites(row: &Row, n: u16) -> bool
+    ensures { result ≡ not (absent n (row_data row.now)) }
 {
-    low_names(row.line, SITE, n)
+    match row {
+        Row::N(_) => true,
+        Row::R(pair) | Row::E(pair) => low_pair(pair, n),
+        Row::D(sandbox) => low_toward(sandbox.toward, n),
+        Row::T(tuple) | Row::A(tuple) => low_tuple(tuple, n),
+        Row::L(root) => root.site < n,
+        Row::Q(process) => low_line(&process.line, n),
+        Row::B(bound) => bound.site < n,
+    }
 }

@@ -2,50 +2,28 @@
 #![tactic(auto)]
 
 use std::io::{Read, Write};
-use streams::{Ending, NAME, Output};
+use streams::{Failure, Program};
 
 // A byte more than an input may have, so that a longer one is seen to be longer.
 const INPUT: usize = 65537;
 
+const PROGRAM: Program = Program {
+    name: b"lotcheck",
+    help: b"usage: lotcheck [FILE]\n\
+    Checks a net against an estimate and prints the listing. FILE, or else standard\n\
+    input, has the rows of the net, a row `.` and the rows of the estimate, at most\n\
+    65,536 bytes.\n",
+};
+
 // Reads the input and writes its listing.
-fn list<R: Read, W: Write>(input: &mut R, output: &mut W) -> Ending {
+fn list<R: Read, W: Write>(input: &mut R, output: &mut W) -> Result<(), Failure> {
     let mut bytes = [0u8; INPUT];
     let mut rows = [0u8; listing::LISTING];
-    let got = streams::read_full(input, &mut bytes);
-    if got.failed {
-        return Ending::Unread;
-    }
-    let n = got.count;
+    let n = streams::read_full(input, &mut bytes)?;
     let k = listing::list(&bytes[..n], &mut rows);
-    if streams::write(output, &rows[..k]) {
-        return Ending::Done;
-    }
-    Ending::Unwritten
+    streams::write(output, &rows[..k]).map_err(Failure::Unwritten)
 }
 
 fn main(rt: HostRuntime) {
-    let mut name = [0u8; NAME];
-    let mut output = Output::stdout(rt.stdout());
-    let mut source = streams::open(
-        &rt,
-        &mut output,
-        b"lotcheck",
-        b"usage: lotcheck [FILE]\n\
-        Checks a net against an estimate and prints the listing. FILE, or else standard\n\
-        input, has the rows of the net, a row `.` and the rows of the estimate, at most\n\
-        65,536 bytes.\n",
-        &mut name,
-    );
-    if source.ready {
-        let n = source.length;
-        let ending = list(&mut source.input, &mut output);
-        streams::tell_ending(
-            &mut rt.stderr(),
-            b"lotcheck",
-            &name[..n],
-            &source.input,
-            &output,
-            ending,
-        );
-    }
+    PROGRAM.run(&rt, |input, output| list(input, output));
 }

@@ -1,129 +1,162 @@
 -- One row more in the tables and the tally of a net, and the tests on the rows above.
 -- Assumes nothing.
 use mathlib.Core.Path.{◌≡◌, refl, sym, ap, ap₂, subst, ◌∙◌}
-use mathlib.Core.Logic.{⊎_elim}
-use mathlib.Core.Bool.{Bool, true, false, not, cond, false≢true}
+use mathlib.Core.Bool.{Bool, true, false, cond, false≢true}
 use mathlib.Core.List.{List, [], ◌∷◌, ◌++◌, map}
+use mathlib.Core.Option.{some}
 use Prim.Native.Nat.{ℕ, ◌+◌, ◌<◌, ◌≤◌}
 use native.Mathlib.Nat.{zero-add}
-use native.Mathlib.Decide.{ℕ_discrete}
 use native.Mathlib.Omega.{arith}
 use lib.Dec.{eqb, leb}
 use lib.ListN.{length, length-map}
-use borrow.Author.Tests.{eq-eqb, ne_eqb}
-use Rattle.stores.proofs.Shapes.{size_row as size-n}
-use Rattle.sets.specs.Lists.{done, more, ◌&◌, either, imp, any, empty, below, same}
-use Rattle.sets.proofs.Lists.{and_l, and_r, imp_e, eqb_eq, leb_le, nleb_lt, All-append, or_false, and_no}
+use Rattle.sets.specs.Lists.{done, more, ◌&◌, either, imp, any, empty, same}
+use Rattle.sets.proofs.Lists.{and_l, and_r, imp_e, eqb_eq, leb_le, nleb_lt, All-append, or_false}
 use Rattle.sets.proofs.Tables.{length_table}
-use Rattle.klaim.specs.Limits.{site_limit, tuple_limit, thread_limit, line_limit}
-use Rattle.klaim.specs.Rows.{Row, group_n, group_r, group_d, group_t, group_l, group_q, group_a}
-use Rattle.klaim.specs.Reader.{a_net, judge, key, repeated, of_group, present, full, headed, own, in_order, size_of, site_count, gather, pair_place, put_boxes, root_of, numbers_of, lines_of}
+use Rattle.klaim.specs.Limits.{tuple_limit, thread_limit, line_limit}
+use Rattle.klaim.specs.Rows.{Row, row_line, group_n, group_r, group_d, group_t, group_l, group_q, group_a}
+use Rattle.klaim.specs.Reader.{a_net, judge, key, repeated, of_group, present, full, headed, own, in_order, size_of, site_count, gather, pair_place, put_boxes, root_of, lines_of}
 use Rattle.klaim.proofs.Above.{group_other, map_other, map_own, last_snoc}
 use Rattle.tables.specs.View.{rows_view, roots_view, lines_view}
-use Rattle.forms.specs.declared.RowData.{RowData}
-use Rattle.forms.specs.Forms.{row_data, row_view, row_good, tuple_group}
-use Rattle.forms.proofs.RowForms.{tuple_case}
-use Rattle.judge.proofs.Limits.{group_is}
+use Rattle.lines.specs.Lines.{line_view}
+use Rattle.forms.specs.declared.rows.Pair.{Pair}
+use Rattle.forms.specs.declared.rows.Sandbox.{Sandbox}
+use Rattle.forms.specs.declared.rows.Tuple.{Tuple}
+use Rattle.forms.specs.declared.rows.Root.{Root}
+use Rattle.forms.specs.declared.rows.Process.{Process}
+use Rattle.forms.specs.declared.rows.Bound.{Bound}
+use Rattle.forms.specs.declared.rows.Row.{Row as FormRow}
+use Rattle.forms.specs.declared.rows.Row.TheVariants as Form
+use Rattle.forms.specs.declared.rows.Group.{Group}
+use Rattle.forms.specs.declared.rows.Group.TheVariants as Groups
+use Rattle.forms.specs.Forms.{group_number, sites_of, size_data, pair_data, box_data, tuple_data, root_data, process_data, bound_data, row_data}
+use Rattle.judge.proofs.Limits.{size_low}
 use Rattle.scan.specs.declared.Tally.{Tally}
-use Rattle.scan.specs.Tallies.{counted_of}
+use Rattle.scan.specs.Tallies.{last_number, counted_of}
 use Rattle.scan.specs.Reasons.{early_of, late_of, judging_of, judged_by}
-use Rattle.scan.proofs.Reasons.{formed, not_formed}
-use Rattle.scan.proofs.Tallies.{grown, at_group, turn_own, turn_other, group_none, size_row, own_row}
-use Rattle.repeats.specs.Kept.{Kept, KeysAre, unsaid_boxes}
+use Rattle.scan.proofs.Reasons.{formed}
+use Rattle.scan.proofs.Tallies.{group_none, counted_size, counted_last, counted_turn}
+use Rattle.repeats.specs.Kept.{KeysAre, unsaid_boxes}
 use Rattle.repeats.proofs.Keys.{keys_other}
+use Rattle.repeats.proofs.Rows.{as_kept}
 use Rattle.nets.specs.declared.reading.NetReader.{NetReader}
 use Rattle.nets.specs.Room.{Room}
 use Rattle.nets.specs.Rows.{NetTables, NetTally, full_of, placed_of, Passed}
 
-counted_at : {above : List Row} {R : NetReader} (row : RowData) (t : Tally) (g : ℕ) → row.group ≡ g → NetTables above R (grown row t g) → NetTables above R (counted_of row t)
-counted_at {above} {R} row t g e T = at_group (NetTables above R) row t g e T
+-- no row of a foreign group is let through
+own_group : (g : ℕ) (t : Tally) → placed_of g t ≡ true → g ≤ 6
+unfolding placed_of
+own_group g t h = leb_le g group_q (and_l _ _ (and_r _ _ h))
+
+foreign_b : (b : Bound) (t : Tally) → placed_of (row_data (Form.B b)).group t ≡ true → ⊥
+unfolding row_data bound_data
+foreign_b b t h = let l = own_group 7 t h in omega arith
+
+foreign_a : (x : Tuple) (t : Tally) → placed_of (row_data (Form.A x)).group t ≡ true → ⊥
+unfolding row_data tuple_data
+foreign_a x t h = let l = own_group 8 t h in omega arith
+
+foreign_e : (p : Pair) (t : Tally) → placed_of (row_data (Form.E p)).group t ≡ true → ⊥
+unfolding row_data pair_data
+foreign_e p t h = let l = own_group 9 t h in omega arith
 
 -- the tables, with a row more that stands in one of them
-module _ {above : List Row} {R : NetReader} {t : Tally} (T : NetTables above R t) (row : RowData) (G : (row_data row).group ≡ row.group) where
-  homes_other : eqb (row_data row).group group_r ≡ false → R.homes ≡ gather 1024 pair_place (λ r. r.rights) (of_group group_r (above ++ (row_data row ∷ [])))
-  homes_other e = T.homes_is ∙ sym (ap (gather 1024 pair_place (λ r. r.rights)) (group_other group_r above (row_data row) e))
+module _ {above : List Row} {R : NetReader} {t : Tally} (T : NetTables above R t) where
+  homes_other : (r : Row) → eqb r.group group_r ≡ false → R.homes ≡ gather 1024 pair_place (λ r. r.rights) (of_group group_r (above ++ (r ∷ [])))
+  homes_other r e = T.homes_is ∙ sym (ap (gather 1024 pair_place (λ r. r.rights)) (group_other group_r above r e))
 
-  boxes_other : eqb (row_data row).group group_d ≡ false → R.boxes ≡ put_boxes unsaid_boxes (of_group group_d (above ++ (row_data row ∷ [])))
-  boxes_other e = T.boxes_is ∙ sym (ap (put_boxes unsaid_boxes) (group_other group_d above (row_data row) e))
+  boxes_other : (r : Row) → eqb r.group group_d ≡ false → R.boxes ≡ put_boxes unsaid_boxes (of_group group_d (above ++ (r ∷ [])))
+  boxes_other r e = T.boxes_is ∙ sym (ap (put_boxes unsaid_boxes) (group_other group_d above r e))
 
-  tuples_other : eqb (row_data row).group group_t ≡ false → rows_view t.tuples R.tuples ≡ map (λ r. r.sites) (of_group group_t (above ++ (row_data row ∷ [])))
-  tuples_other e = T.tuples_is ∙ sym (map_other (λ r. r.sites) group_t above (row_data row) e)
+  tuples_other : (r : Row) → eqb r.group group_t ≡ false → rows_view t.tuples R.tuples ≡ map (λ r. r.sites) (of_group group_t (above ++ (r ∷ [])))
+  tuples_other r e = T.tuples_is ∙ sym (map_other (λ r. r.sites) group_t above r e)
 
-  roots_other : eqb (row_data row).group group_l ≡ false → roots_view t.roots R.roots ≡ map root_of (of_group group_l (above ++ (row_data row ∷ [])))
-  roots_other e = T.roots_is ∙ sym (map_other root_of group_l above (row_data row) e)
+  roots_other : (r : Row) → eqb r.group group_l ≡ false → roots_view t.roots R.roots ≡ map root_of (of_group group_l (above ++ (r ∷ [])))
+  roots_other r e = T.roots_is ∙ sym (map_other root_of group_l above r e)
 
-  lines_other : eqb (row_data row).group group_q ≡ false → lines_view t.lines R.lines ≡ lines_of (above ++ (row_data row ∷ []))
+  lines_other : (r : Row) → eqb r.group group_q ≡ false → lines_view t.lines R.lines ≡ lines_of (above ++ (r ∷ []))
   unfolding lines_of
-  lines_other e = T.lines_is ∙ sym (map_other (λ r. r.process) group_q above (row_data row) e)
+  lines_other r e = T.lines_is ∙ sym (map_other (λ r. r.process) group_q above r e)
 
-  no_key : {g : ℕ} → row.group ≡ g → eqb g group_t ≡ false → KeysAre group_t (above ++ (row_data row ∷ [])) R.keys t.tuples
-  no_key e n = keys_other (row_data row) (λ q. false≢true (sym n ∙ eq-eqb _ group_t (sym e ∙ sym G ∙ q))) T.keys_are
+  no_key : (r : Row) → (r.group ≡ group_t → ⊥) → KeysAre group_t (above ++ (r ∷ [])) R.keys t.tuples
+  no_key r e = keys_other r e T.keys_are
 
-  pub tables_n : row.group ≡ group_n → NetTables (above ++ (row_data row ∷ [])) R (counted_of row t)
-  unfolding tuple_group either
-  tables_n e = counted_at row t 1 e (record {
-    homes_is = homes_other (rw (G, e));
-    boxes_is = boxes_other (rw (G, e));
-    tuples_is = tuples_other (rw (G, e));
-    roots_is = roots_other (rw (G, e));
-    lines_is = lines_other (rw (G, e));
-    keys_are = no_key e refl;
-  })
+  tables_n : (n : ℕ) → NetTables (above ++ (row_data (Form.N n) ∷ [])) R (counted_of (Form.N n) t)
+  unfolding row_data size_data
+  tables_n n = record {
+    homes_is = homes_other (size_data n) refl;
+    boxes_is = boxes_other (size_data n) refl;
+    tuples_is = tuples_other (size_data n) refl;
+    roots_is = roots_other (size_data n) refl;
+    lines_is = lines_other (size_data n) refl;
+    keys_are = no_key (size_data n) (λ e. omega arith);
+  }
 
-  pub tables_r : {new : List ℕ} {room : Room R.tally} → row.group ≡ group_r → new ≡ gather 1024 pair_place (λ r. r.rights) (of_group group_r (above ++ (row_data row ∷ []))) → NetTables (above ++ (row_data row ∷ [])) (record R { homes = new; room = room }) (counted_of row t)
-  unfolding tuple_group either
-  tables_r e h = counted_at row t 2 e (record {
+  pub tables_r : (p : Pair) {new : List ℕ} {room : Room R.tally} → new ≡ gather 1024 pair_place (λ r. r.rights) (of_group group_r (above ++ (pair_data group_r p ∷ []))) → NetTables (above ++ (row_data (Form.R p) ∷ [])) (record R { homes = new; room = room }) (counted_of (Form.R p) t)
+  unfolding row_data pair_data
+  tables_r p h = record {
     homes_is = h;
-    boxes_is = boxes_other (rw (G, e));
-    tuples_is = tuples_other (rw (G, e));
-    roots_is = roots_other (rw (G, e));
-    lines_is = lines_other (rw (G, e));
-    keys_are = no_key e refl;
-  })
+    boxes_is = boxes_other (pair_data group_r p) refl;
+    tuples_is = tuples_other (pair_data group_r p) refl;
+    roots_is = roots_other (pair_data group_r p) refl;
+    lines_is = lines_other (pair_data group_r p) refl;
+    keys_are = no_key (pair_data group_r p) (λ e. omega arith);
+  }
 
-  pub tables_d : {new : List ℕ} {room : Room R.tally} → row.group ≡ group_d → new ≡ put_boxes unsaid_boxes (of_group group_d (above ++ (row_data row ∷ []))) → NetTables (above ++ (row_data row ∷ [])) (record R { boxes = new; room = room }) (counted_of row t)
-  unfolding tuple_group either
-  tables_d e h = counted_at row t 3 e (record {
-    homes_is = homes_other (rw (G, e));
+  pub tables_d : (b : Sandbox) {new : List ℕ} {room : Room R.tally} → new ≡ put_boxes unsaid_boxes (of_group group_d (above ++ (box_data b ∷ []))) → NetTables (above ++ (row_data (Form.D b) ∷ [])) (record R { boxes = new; room = room }) (counted_of (Form.D b) t)
+  unfolding row_data box_data
+  tables_d b h = record {
+    homes_is = homes_other (box_data b) refl;
     boxes_is = h;
-    tuples_is = tuples_other (rw (G, e));
-    roots_is = roots_other (rw (G, e));
-    lines_is = lines_other (rw (G, e));
-    keys_are = no_key e refl;
-  })
+    tuples_is = tuples_other (box_data b) refl;
+    roots_is = roots_other (box_data b) refl;
+    lines_is = lines_other (box_data b) refl;
+    keys_are = no_key (box_data b) (λ e. omega arith);
+  }
 
-  pub tables_t : {new keys : List ℕ} {room : Room R.tally} → row.group ≡ group_t → rows_view (t.tuples + 1) new ≡ rows_view t.tuples R.tuples ++ ((row_data row).sites ∷ []) → KeysAre group_t (above ++ (row_data row ∷ [])) keys (t.tuples + 1) → NetTables (above ++ (row_data row ∷ [])) (record R { tuples = new; keys = keys; room = room }) (counted_of row t)
-  unfolding tuple_group either
-  tables_t e h K = counted_at row t 4 e (record {
-    homes_is = homes_other (rw (G, e));
-    boxes_is = boxes_other (rw (G, e));
-    tuples_is = h ∙ ap (λ (xs : List (List ℕ)). xs ++ ((row_data row).sites ∷ [])) T.tuples_is ∙ sym (map_own (λ r. r.sites) group_t above (row_data row) (rw (G, e)));
-    roots_is = roots_other (rw (G, e));
-    lines_is = lines_other (rw (G, e));
+  pub tables_t : (x : Tuple) {new keys : List ℕ} {room : Room R.tally} → rows_view (t.tuples + 1) new ≡ rows_view t.tuples R.tuples ++ (sites_of x ∷ []) → KeysAre group_t (above ++ (tuple_data group_t x ∷ [])) keys (t.tuples + 1) → NetTables (above ++ (row_data (Form.T x) ∷ [])) (record R { tuples = new; keys = keys; room = room }) (counted_of (Form.T x) t)
+  unfolding row_data tuple_data
+  tables_t x h K = record {
+    homes_is = homes_other (tuple_data group_t x) refl;
+    boxes_is = boxes_other (tuple_data group_t x) refl;
+    tuples_is = h ∙ ap (λ (xs : List (List ℕ)). xs ++ (sites_of x ∷ [])) T.tuples_is ∙ sym (map_own (λ r. r.sites) group_t above (tuple_data group_t x) refl);
+    roots_is = roots_other (tuple_data group_t x) refl;
+    lines_is = lines_other (tuple_data group_t x) refl;
     keys_are = K;
-  })
+  }
 
-  pub tables_l : {new : List ℕ} {room : Room R.tally} → row.group ≡ group_l → roots_view (t.roots + 1) new ≡ roots_view t.roots R.roots ++ (root_of (row_data row) ∷ []) → NetTables (above ++ (row_data row ∷ [])) (record R { roots = new; room = room }) (counted_of row t)
-  unfolding tuple_group either
-  tables_l e h = counted_at row t 5 e (record {
-    homes_is = homes_other (rw (G, e));
-    boxes_is = boxes_other (rw (G, e));
-    tuples_is = tuples_other (rw (G, e));
-    roots_is = h ∙ ap (λ xs. xs ++ (root_of (row_data row) ∷ [])) T.roots_is ∙ sym (map_own root_of group_l above (row_data row) (rw (G, e)));
-    lines_is = lines_other (rw (G, e));
-    keys_are = no_key e refl;
-  })
+  pub tables_l : (x : Root) {new : List ℕ} {room : Room R.tally} → roots_view (t.roots + 1) new ≡ roots_view t.roots R.roots ++ (root_of (root_data x) ∷ []) → NetTables (above ++ (row_data (Form.L x) ∷ [])) (record R { roots = new; room = room }) (counted_of (Form.L x) t)
+  unfolding row_data root_data
+  tables_l x h = record {
+    homes_is = homes_other (root_data x) refl;
+    boxes_is = boxes_other (root_data x) refl;
+    tuples_is = tuples_other (root_data x) refl;
+    roots_is = h ∙ ap (λ xs. xs ++ (root_of (root_data x) ∷ [])) T.roots_is ∙ sym (map_own root_of group_l above (root_data x) refl);
+    lines_is = lines_other (root_data x) refl;
+    keys_are = no_key (root_data x) (λ e. omega arith);
+  }
 
-  pub tables_q : {new : List ℕ} {room : Room R.tally} → row.group ≡ group_q → lines_view (t.lines + 1) new ≡ lines_view t.lines R.lines ++ ((row_data row).process ∷ []) → NetTables (above ++ (row_data row ∷ [])) (record R { lines = new; room = room }) (counted_of row t)
-  unfolding tuple_group either lines_of
-  tables_q e h = counted_at row t 6 e (record {
-    homes_is = homes_other (rw (G, e));
-    boxes_is = boxes_other (rw (G, e));
-    tuples_is = tuples_other (rw (G, e));
-    roots_is = roots_other (rw (G, e));
-    lines_is = h ∙ ap (λ xs. xs ++ ((row_data row).process ∷ [])) T.lines_is ∙ sym (map_own (λ r. r.process) group_q above (row_data row) (rw (G, e)));
-    keys_are = no_key e refl;
-  })
+  pub tables_q : (p : Process) {new : List ℕ} {room : Room R.tally} → lines_view (t.lines + 1) new ≡ lines_view t.lines R.lines ++ (line_view p.line ∷ []) → NetTables (above ++ (row_data (Form.Q p) ∷ [])) (record R { lines = new; room = room }) (counted_of (Form.Q p) t)
+  unfolding row_data process_data row_line lines_of
+  tables_q p h = record {
+    homes_is = homes_other (process_data p) refl;
+    boxes_is = boxes_other (process_data p) refl;
+    tuples_is = tuples_other (process_data p) refl;
+    roots_is = roots_other (process_data p) refl;
+    lines_is = h ∙ ap (λ xs. xs ++ (line_view p.line ∷ [])) T.lines_is ∙ sym (map_own (λ r. r.process) group_q above (process_data p) refl);
+    keys_are = no_key (process_data p) (λ e. omega arith);
+  }
+
+  -- a row that is in no table is the N row
+  pub tables_rest : (row : FormRow) → placed_of (row_data row).group t ≡ true → ((p : Pair) → row ≡ Form.R p → ⊥) → ((b : Sandbox) → row ≡ Form.D b → ⊥) → ((x : Tuple) → row ≡ Form.T x → ⊥) → ((x : Root) → row ≡ Form.L x → ⊥) → ((p : Process) → row ≡ Form.Q p → ⊥) → NetTables (above ++ (row_data row ∷ [])) R (counted_of row t)
+  tables_rest (Form.N n) h r d u l q = tables_n n
+  tables_rest (Form.R p) h r d u l q = absurd (r p refl)
+  tables_rest (Form.D b) h r d u l q = absurd (d b refl)
+  tables_rest (Form.T x) h r d u l q = absurd (u x refl)
+  tables_rest (Form.L x) h r d u l q = absurd (l x refl)
+  tables_rest (Form.Q p) h r d u l q = absurd (q p refl)
+  tables_rest (Form.B b) h r d u l q = absurd (foreign_b b t h)
+  tables_rest (Form.A x) h r d u l q = absurd (foreign_a x t h)
+  tables_rest (Form.E p) h r d u l q = absurd (foreign_e p t h)
 
 -- the tally beside the tables is that which counts their rows
 pub recounted : {above : List Row} {R : NetReader} {t u : Tally} → NetTables above R t → u ≡ t → {room : Room u} → NetTables above (record R { tally = u; room = room }) u
@@ -199,56 +232,54 @@ full_by g k a b c t l q s = at_t (eqb g group_t) refl
     at_t true e = let h : g ≡ group_t = eqb_eq e in rw (h, t h) (or_false (leb tuple_limit a))
     at_t false e = at_l (eqb g group_l) refl
 
-module _ (row : RowData) {t : Tally} {above : List Row} {R : NetReader} (T : NetTables above R t) (Y : NetTally above t) where
-  full_is : full a_net row.group (length (of_group row.group above)) ≡ full_of row.group t
+module _ (r : Row) {t : Tally} {above : List Row} {R : NetReader} (T : NetTables above R t) (Y : NetTally above t) where
+  full_is : full a_net r.group (length (of_group r.group above)) ≡ full_of r.group t
   unfolding full_of
-  full_is = full_by row.group _ t.tuples t.roots t.lines
+  full_is = full_by r.group _ t.tuples t.roots t.lines
       (λ e. ap (λ (g : ℕ). length (of_group g above)) e ∙ count_t T)
       (λ e. ap (λ (g : ℕ). length (of_group g above)) e ∙ count_l T)
       (λ e. ap (λ (g : ℕ). length (of_group g above)) e ∙ count_q T)
       (λ e. ap (λ (g : ℕ). length (of_group g above)) e ∙ ap length (group_none a_net group_a above Y.owned foreign))
 
   -- 3, but for repeats
-  placed_is : (row_data row).group ≡ row.group → headed a_net above (row_data row) & own a_net row.group & in_order above (row_data row) ≡ placed_of row.group t
+  placed_is : headed a_net above r & own a_net r.group & in_order above r ≡ placed_of r.group t
   unfolding headed own placed_of
-  placed_is e =
-      ap₂ (λ (x y : Bool). x & leb row.group group_q & y)
-      (ap₂ (λ (b : Bool) (g : ℕ). imp b (eqb g group_n) & imp (eqb g group_n) b) Y.first e)
-      (Y.order (row_data row) ∙ ap (leb t.last) e)
+  placed_is = ap₂ (λ (b o : Bool). (imp b (eqb r.group group_n) & imp (eqb r.group group_n) b) & leb r.group group_q & o) Y.first (Y.order r)
 
   -- "Each row top down: 1, 2, 3, 4, 7."
-  pub judged_is : row_good row ≡ true → judge a_net above (row_view row) ≡ judged_by (judging_of (early_of row (full_of row.group t) (placed_of row.group t)) (repeated above (row_data row)) (late_of t.size (row_data row))) (row_data row)
+  pub judged_is : judge a_net above (some r) ≡ judged_by (judging_of (early_of r (full_of r.group t) (placed_of r.group t)) (repeated above r) (late_of t.size r)) r
   unfolding site_count
-  judged_is G = go (ℕ_discrete row.group 0)
-    where
-      go : Dec (row.group ≡ 0) → judge a_net above (row_view row) ≡ judged_by (judging_of (early_of row (full_of row.group t) (placed_of row.group t)) (repeated above (row_data row)) (late_of t.size (row_data row))) (row_data row)
-      go (yes z) = not_formed a_net above row z (late_of t.size (row_data row)) (full_of row.group t) (placed_of row.group t) (repeated above (row_data row))
-      go (no h) =
-          formed a_net above row G h
-          ∙ ap (λ (x : Bool). judged_by (judging_of (early_of row x (headed a_net above (row_data row) & own a_net row.group & in_order above (row_data row))) (repeated above (row_data row)) (late_of (size_of above) (row_data row))) (row_data row)) full_is
-          ∙ ap (λ (x : Bool). judged_by (judging_of (early_of row (full_of row.group t) x) (repeated above (row_data row)) (late_of (size_of above) (row_data row))) (row_data row)) (placed_is (group_is row G (omega arith)))
-          ∙ ap (λ (n : ℕ). judged_by (judging_of (early_of row (full_of row.group t) (placed_of row.group t)) (repeated above (row_data row)) (late_of n (row_data row))) (row_data row)) Y.size_is
+  judged_is =
+      formed a_net above r
+      ∙ ap (λ (x : Bool). judged_by (judging_of (early_of r x (headed a_net above r & own a_net r.group & in_order above r)) (repeated above r) (late_of (size_of above) r)) r) full_is
+      ∙ ap (λ (x : Bool). judged_by (judging_of (early_of r (full_of r.group t) x) (repeated above r) (late_of (size_of above) r)) r) placed_is
+      ∙ ap (λ (n : ℕ). judged_by (judging_of (early_of r (full_of r.group t) (placed_of r.group t)) (repeated above r) (late_of n r)) r) Y.size_is
+
+some_group : (row : FormRow) → eqb (row_data row).group 0 ≡ false
+unfolding row_data size_data pair_data box_data tuple_data root_data process_data bound_data row_line
+some_group (Form.N x) = refl
+some_group (Form.R x) = refl
+some_group (Form.D x) = refl
+some_group (Form.T x) = refl
+some_group (Form.L x) = refl
+some_group (Form.Q x) = refl
+some_group (Form.B x) = refl
+some_group (Form.A x) = refl
+some_group (Form.E x) = refl
 
 -- a row that is let through, in the tally
-pub tally_more : (row : RowData) {t : Tally} {above : List Row} → NetTally above t → Kept (row_data row) → row_good row ≡ true → (row_data row).group ≡ row.group → Passed row t → NetTally (above ++ (row_data row ∷ [])) (counted_of row t)
+pub tally_more : (row : FormRow) {t : Tally} {above : List Row} → NetTally above t → Passed row t → NetTally (above ++ (row_data row ∷ [])) (counted_of row t)
 unfolding placed_of
-tally_more row {t} {above} Y k G e P = record {
-  kept = All-append Y.kept (more k done);
-  owned = All-append Y.owned (more (ap (own a_net) e ∙ owns row.group (and_l _ _ (and_r _ _ P.placed))) done);
-  size_is = size_more above (row_data row) _ row.group t.size row.size Y.first Y.size_is (and_l _ _ (and_l _ _ P.placed)) (and_r _ _ (and_l _ _ P.placed)) (size_row row G);
-  order = λ x. last_snoc above t.last (row_data row) Y.order (ap (leb t.last) e ∙ and_r _ _ (and_r _ _ P.placed)) x ∙ ap (λ (g : ℕ). leb g x.group) e;
-  turn = turned (eqb row.group group_q) refl;
-  first = some_above above (row_data row) ∙ sym (ne_eqb row.group 0 (λ z. let s = P.some in omega arith));
-}
-  where
-    turned : (b : Bool) → eqb row.group group_q ≡ b → same (numbers_of (above ++ (row_data row ∷ []))) (below (cond b (t.lines + 1) t.lines)) ≡ cond b (t.turn & eqb row.own t.lines) t.turn
-    turned true q =
-        turn_own above (row_data row) t.lines (e ∙ eqb_eq q)
-        ∙ ap₂ (λ (x : Bool) (y : ℕ). x & eqb y t.lines) Y.turn (own_row row G (eqb_eq q))
-    turned false q = turn_other above (row_data row) t.lines (ap (λ (g : ℕ). eqb g group_q) e ∙ q) ∙ Y.turn
-
-six : (g : ℕ) → 0 < g → (g ≡ 1 → ⊥) → (g ≡ 2 → ⊥) → (g ≡ 3 → ⊥) → (g ≡ 4 → ⊥) → (g ≡ 5 → ⊥) → g ≤ 6 → g ≡ 6
-six g a b c d e f h = omega arith
+tally_more row {t} {above} Y P =
+    let r = row_data row in
+    record {
+      kept = All-append Y.kept (more (as_kept row P.low) done);
+      owned = All-append Y.owned (more (owns r.group (and_l _ _ (and_r _ _ P.placed))) done);
+      size_is = size_more above r _ r.group t.size r.size Y.first Y.size_is (and_l _ _ (and_l _ _ P.placed)) (and_r _ _ (and_l _ _ P.placed)) (λ e. refl) ∙ sym (counted_size row t);
+      order = λ x. last_snoc above (last_number t.last) r Y.order (and_r _ _ (and_r _ _ P.placed)) x ∙ ap (λ (g : ℕ). leb g x.group) (sym (counted_last row t));
+      turn = counted_turn above row t Y.turn;
+      first = some_above above r ∙ sym (ap (λ (g : ℕ). eqb g 0) (counted_last row t) ∙ some_group row);
+    }
 
 no_rows : (a : Bool) (f : Row → Bool) (xs : List Row) → empty xs ≡ true → a & any f xs ≡ false
 unfolding ◌&◌ any empty
@@ -257,23 +288,17 @@ no_rows false f [] z = refl
 no_rows a f (x ∷ xs) z = absurd (false≢true z)
 
 -- N stands once, and Q rows are never repeated
-pub seen_rest : (row : RowData) {t : Tally} {above : List Row} → NetTally above t → (row_data row).group ≡ row.group → placed_of row.group t ≡ true → 0 < row.group → (row.group ≡ group_r → ⊥) → (row.group ≡ group_d → ⊥) → (row.group ≡ group_t → ⊥) → (row.group ≡ group_l → ⊥) → false ≡ repeated above (row_data row)
-unfolding repeated placed_of
-seen_rest row {t} {above} Y e p s r d u l = sym (go (eqb row.group group_n) refl)
-  where
-    alike : Row → Bool
-    alike b = same (key b) (key (row_data row))
-
-    go : (b : Bool) → eqb row.group group_n ≡ b → not (eqb (row_data row).group group_q) & any alike above ≡ false
-    go true h = no_rows _ alike above (Y.first ∙ imp_e (eqb row.group group_n) (eqb t.last 0) (and_r _ _ (and_l _ _ p)) h)
-    go false h =
-        let q = six row.group s (λ z. false≢true (sym h ∙ eq-eqb row.group group_n z)) r d u l (leb_le row.group group_q (and_l _ _ (and_r _ _ p))) in
-        ap (λ (g : ℕ). not (eqb g group_q) & any alike above) (e ∙ q) ∙ and_no (any alike above) refl
-
--- a row that is in no table is the N row
-pub first_group : (g : ℕ) (t : Tally) → 0 < g → placed_of g t ≡ true → (g ≡ group_r → ⊥) → (g ≡ group_d → ⊥) → (g ≡ group_t → ⊥) → (g ≡ group_l → ⊥) → (g ≡ group_q → ⊥) → g ≡ group_n
-unfolding placed_of
-first_group g t s p r d u l q = let h = leb_le g group_q (and_l _ _ (and_r _ _ p)) in omega arith
+pub seen_rest : (row : FormRow) {t : Tally} {above : List Row} → NetTally above t → placed_of (row_data row).group t ≡ true → ((p : Pair) → row ≡ Form.R p → ⊥) → ((b : Sandbox) → row ≡ Form.D b → ⊥) → ((x : Tuple) → row ≡ Form.T x → ⊥) → ((x : Root) → row ≡ Form.L x → ⊥) → false ≡ repeated above (row_data row)
+unfolding repeated placed_of row_data size_data process_data row_line ◌&◌
+seen_rest (Form.N n) {t} {above} Y h r d u l = sym (no_rows true (λ b. same (key b) (key (size_data n))) above (Y.first ∙ imp_e true (eqb (last_number t.last) 0) (and_r _ _ (and_l _ _ h)) refl))
+seen_rest (Form.R p) Y h r d u l = absurd (r p refl)
+seen_rest (Form.D b) Y h r d u l = absurd (d b refl)
+seen_rest (Form.T x) Y h r d u l = absurd (u x refl)
+seen_rest (Form.L x) Y h r d u l = absurd (l x refl)
+seen_rest (Form.Q p) Y h r d u l = refl
+seen_rest (Form.B b) {t} Y h r d u l = absurd (foreign_b b t h)
+seen_rest (Form.A x) {t} Y h r d u l = absurd (foreign_a x t h)
+seen_rest (Form.E p) {t} Y h r d u l = absurd (foreign_e p t h)
 
 -- there is room in the table of a group that is not full
 module _ (g : ℕ) (t : Tally) where
@@ -289,38 +314,28 @@ module _ (g : ℕ) (t : Tally) where
   unfolding full_of ◌&◌
   room_q e f = nleb_lt line_limit t.lines (rw e at f)
 
-tuple_t : (g : ℕ) → tuple_group g ≡ true → g ≤ 6 → g ≡ group_t
-tuple_t g e h = ⊎_elim (λ z. z) (λ z. absurd (omega arith)) (tuple_case g e)
+-- the limits of the counts, with a row more
+pub room_more : (row : FormRow) (t : Tally) → Passed row t → Room t → Room (counted_of row t)
+unfolding row_data size_data tuple_data root_data process_data row_line
+room_more (Form.N n) t P R = let l = size_low n P.low in record { tuples_few = R.tuples_few; roots_few = R.roots_few; lines_few = R.lines_few; size_few = l.1 }
+room_more (Form.R p) t P R = record { tuples_few = R.tuples_few; roots_few = R.roots_few; lines_few = R.lines_few; size_few = R.size_few }
+room_more (Form.D b) t P R = record { tuples_few = R.tuples_few; roots_few = R.roots_few; lines_few = R.lines_few; size_few = R.size_few }
+room_more (Form.T x) t P R = let l : t.tuples < 256 = room_t group_t t refl P.room in record { tuples_few = omega arith; roots_few = R.roots_few; lines_few = R.lines_few; size_few = R.size_few }
+room_more (Form.L x) t P R = let l : t.roots < 64 = room_l group_l t refl P.room in record { tuples_few = R.tuples_few; roots_few = omega arith; lines_few = R.lines_few; size_few = R.size_few }
+room_more (Form.Q p) t P R = let l : t.lines < 256 = room_q group_q t refl P.room in record { tuples_few = R.tuples_few; roots_few = R.roots_few; lines_few = omega arith; size_few = R.size_few }
+room_more (Form.B b) t P R = record { tuples_few = R.tuples_few; roots_few = R.roots_few; lines_few = R.lines_few; size_few = R.size_few }
+room_more (Form.A x) t P R = absurd (foreign_a x t P.placed)
+room_more (Form.E p) t P R = record { tuples_few = R.tuples_few; roots_few = R.roots_few; lines_few = R.lines_few; size_few = R.size_few }
 
-own_group : (row : RowData) (t : Tally) → Passed row t → row.group ≤ 6
-unfolding placed_of
-own_group row t P = leb_le row.group group_q (and_l _ _ (and_r _ _ P.placed))
-
--- there is room for a row of a group that is not full
-pub room_more : (row : RowData) (t : Tally) → row_good row ≡ true → Passed row t → Room t → Room (counted_of row t)
+-- a group that has no limit
+pub full_rest : (g : Group) (t : Tally) → (g ≡ Groups.T → ⊥) → (g ≡ Groups.L → ⊥) → (g ≡ Groups.Q → ⊥) → false ≡ full_of (group_number g) t
 unfolding full_of ◌&◌
-room_more row t G P R = record {
-  tuples_few = few_t (tuple_group row.group) refl;
-  roots_few = few_l (eqb row.group group_l) refl;
-  lines_few = few_q (eqb row.group group_q) refl;
-  size_few = few_n (eqb row.group group_n) refl;
-}
-  where
-    f : full_of row.group t ≡ false
-    f = P.room
-
-    few_n : (b : Bool) → eqb row.group group_n ≡ b → cond b row.size t.size ≤ site_limit
-    few_n true e = (size-n row G P.low (eqb_eq e)).size_low
-    few_n false e = R.size_few
-
-    few_t : (b : Bool) → tuple_group row.group ≡ b → cond b (t.tuples + 1) t.tuples ≤ tuple_limit
-    few_t true e = let l : t.tuples < 256 = room_t row.group t (tuple_t row.group e (own_group row t P)) f in omega arith
-    few_t false e = R.tuples_few
-
-    few_l : (b : Bool) → eqb row.group group_l ≡ b → cond b (t.roots + 1) t.roots ≤ thread_limit
-    few_l true e = let l : t.roots < 64 = room_l row.group t (eqb_eq e) f in omega arith
-    few_l false e = R.roots_few
-
-    few_q : (b : Bool) → eqb row.group group_q ≡ b → cond b (t.lines + 1) t.lines ≤ line_limit
-    few_q true e = let l : t.lines < 256 = room_q row.group t (eqb_eq e) f in omega arith
-    few_q false e = R.lines_few
+full_rest Groups.N t a b c = refl
+full_rest Groups.R t a b c = refl
+full_rest Groups.D t a b c = refl
+full_rest Groups.T t a b c = absurd (a refl)
+full_rest Groups.L t a b c = absurd (b refl)
+full_rest Groups.Q t a b c = absurd (c refl)
+full_rest Groups.B t a b c = refl
+full_rest Groups.A t a b c = refl
+full_rest Groups.E t a b c = refl

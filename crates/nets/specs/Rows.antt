@@ -1,14 +1,15 @@
 -- What a reader of a net keeps of the rows above.
 -- Assumes nothing.
-use Rattle.std.specs.Prelude.{◌≡◌, Bool, true, false, cond, List, map, ℕ, ◌<◌, eqb, leb}
+use Rattle.std.specs.Prelude.{◌≡◌, Bool, true, false, cond, List, map, ℕ, eqb, leb}
 use Rattle.sets.specs.Lists.{All, ◌&◌, imp, below, empty, same}
 use Rattle.klaim.specs.Limits.{tuple_limit, thread_limit, line_limit}
 use Rattle.klaim.specs.Rows.{Row, group_n, group_r, group_d, group_t, group_l, group_q}
 use Rattle.klaim.specs.Reader.{Text, a_net, in_limits, of_group, own, in_order, size_of, gather, pair_place, put_boxes, root_of, numbers_of, lines_of}
 use Rattle.tables.specs.View.{rows_view, roots_view, lines_view}
-use Rattle.forms.specs.declared.RowData.{RowData}
+use Rattle.forms.specs.declared.rows.Row as Form
 use Rattle.forms.specs.Forms.{row_data}
 use Rattle.scan.specs.declared.Tally.{Tally}
+use Rattle.scan.specs.Tallies.{last_number}
 use Rattle.repeats.specs.Kept.{Kept, KeysAre, unsaid_boxes}
 use Rattle.nets.specs.declared.reading.NetReader.{NetReader}
 
@@ -26,9 +27,9 @@ pub record NetTally (above : List Row) (t : Tally) : Type 0 where
   pub kept : All Kept above
   pub owned : All (λ r. own a_net r.group ≡ true) above
   pub size_is : size_of above ≡ t.size
-  pub order : (r : Row) → in_order above r ≡ leb t.last r.group
+  pub order : (r : Row) → in_order above r ≡ leb (last_number t.last) r.group
   pub turn : same (numbers_of above) (below t.lines) ≡ t.turn
-  pub first : empty above ≡ eqb t.last 0
+  pub first : empty above ≡ eqb (last_number t.last) 0
 
 -- the rows above, of a net, are held
 pub record NetHolds (t : Text) (above : List Row) (r : NetReader) : Type 0 where
@@ -45,11 +46,10 @@ full_of g t =
 
 -- 3, but for repeats: N first and once, no foreign row, groups in order
 unfoldable pub placed_of : ℕ → Tally → Bool
-placed_of g t = (imp (eqb t.last 0) (eqb g group_n) & imp (eqb g group_n) (eqb t.last 0)) & leb g group_q & leb t.last g
+placed_of g t = (imp (eqb (last_number t.last) 0) (eqb g group_n) & imp (eqb g group_n) (eqb (last_number t.last) 0)) & leb g group_q & leb (last_number t.last) g
 
--- a row that 1, 2 and the order let through
-pub record Passed (row : RowData) (t : Tally) : Type 0 where
-  pub some : 0 < row.group
+-- a row that 2 and the order let through
+pub record Passed (row : Form.Row) (t : Tally) : Type 0 where
   pub low : in_limits (row_data row) ≡ true
-  pub room : full_of row.group t ≡ false
-  pub placed : placed_of row.group t ≡ true
+  pub room : full_of (row_data row).group t ≡ false
+  pub placed : placed_of (row_data row).group t ≡ true

@@ -1,11 +1,13 @@
 //! A net, read from its bytes.
 #![tactic(auto)]
 
-ghost use Rattle.std.specs.Prelude.{◌≡◌, true, List, [], ◌∷◌, ◌++◌, ◌<◌, ◌≤◌, length, OnOk};
-ghost use Rattle.klaim.specs.Rows.{Row};
+ghost use Rattle.std.specs.Prelude.{◌≡◌, true, List, [], ◌∷◌, ◌++◌, ◌<◌, ◌≤◌, eqb, leb, length, OnOk};
+ghost use Rattle.klaim.specs.Rows as Spec;
+ghost use Rattle.klaim.specs.Rows.{group_n, group_q};
 ghost use Rattle.klaim.specs.Reader.{a_net, Text, judge, in_limits, repeated, whole_net, read_net};
 ghost use Rattle.klaim.specs.Refusals.{answer_of};
-ghost use Rattle.forms.specs.Forms.{row_view, row_data, row_good};
+ghost use Rattle.std.proofs.Math.Option.{some};
+ghost use Rattle.forms.specs.Forms.{group_number, row_data};
 ghost use Rattle.tables.specs.View.{net_view};
 ghost use Rattle.scan.specs.Reasons.{judged_by};
 ghost use Rattle.scan.specs.Tallies.{counted_of};
@@ -14,74 +16,70 @@ ghost use Rattle.nets.specs.Defaults.{own_of, with_own, cleared};
 
 mod reading;
 
-use forms::RowData;
+use forms::{Group, Row};
 use klaim::{Reason, Refusal};
 use reading::NetReader;
 use scan::{Reader, Tally};
 use sets::EVERY;
 use tables::{BOX, BOXES, LINES, Net, OWN, SANDBOXES, THREADS, TUPLES};
-use text::{GROUP_D, GROUP_L, GROUP_N, GROUP_Q, GROUP_R, GROUP_T, UNSAID};
+use text::UNSAID;
+
+// Whether a group is that of the first row of a net, and whether it is one of a net's.
+fn is_head(group: Group) -> bool
+    ensures { result ≡ eqb (group_number group) group_n }
+{
+    group == Group::N
+}
+
+fn is_own(group: Group) -> bool
+    ensures { result ≡ leb (group_number group) group_q }
+{
+    group <= Group::Q
+}
 
 impl NetReader {
-    // Nothing is read.
-    fn new() -> NetReader
-        ensures { NetHolds a_net [] result }
-    {
-        NetReader {
-            homes: [0; 1024],
-            boxes: [UNSAID; 1056],
-            tuples: [0; 1536],
-            keys: [0; 256],
-            roots: [0; 128],
-            lines: [0; 2560],
-            tally: Tally::start(0),
-        }
-    }
-
     // Whether no row of this group may follow.
-    fn is_full(&self, group: u8) -> bool
-        ensures { result ≡ full_of group self.now.tally }
+    fn is_full(&self, group: Group) -> bool
+        ensures { result ≡ full_of (group_number group) self.now.tally }
     {
         match group {
-            GROUP_T => TUPLES <= self.tally.tuples,
-            GROUP_L => THREADS <= self.tally.roots,
-            GROUP_Q => LINES <= self.tally.lines,
+            Group::T => TUPLES <= self.tally.tuples,
+            Group::L => THREADS <= self.tally.roots,
+            Group::Q => LINES <= self.tally.lines,
             _ => false,
         }
     }
 
     // Whether a row of this group may follow the rows above: N stands first, and once.
-    fn is_placed(&self, group: u8) -> bool
-        ensures { result ≡ placed_of group self.now.tally }
+    fn is_placed(&self, group: Group) -> bool
+        ensures { result ≡ placed_of (group_number group) self.now.tally }
     {
-        let headed = (self.tally.last == 0) == (group == GROUP_N);
-        headed & (group <= GROUP_Q) & (self.tally.last <= group)
+        let headed = self.tally.last.is_none() == is_head(group);
+        headed & is_own(group) & self.tally.in_order(group)
     }
 
     // Whether the row stands above.
-    fn is_seen(&self, row: RowData) -> bool
-        requires row_value { row_good row ≡ true }
-        requires group_nonzero { 0 < row.group }
-        requires row_value_2 { in_limits (row_data row) ≡ true }
-        requires tally_value { placed_of row.group self.now.tally ≡ true }
-        ensures { (above : List Row) → NetHolds a_net above self.now → result ≡ repeated above (row_data row) }
+    fn is_seen(&self, row: &Row) -> bool
+        requires low { in_limits (row_data row.now) ≡ true }
+        requires placed { placed_of (row_data row.now).group self.now.tally ≡ true }
+        ensures { (above : List Spec.Row) → NetHolds a_net above self.now → result ≡ repeated above (row_data row.now) }
     {
-        match row.group {
-            GROUP_R => repeats::pair_seen(&self.homes, row),
-            GROUP_D => repeats::box_seen(&self.boxes, row),
-            GROUP_T => repeats::tuple_seen(&self.keys, self.tally.tuples, row),
-            GROUP_L => repeats::root_seen(&self.roots, self.tally.roots, row),
+        match row {
+            Row::R(pair) => repeats::pair_seen(&self.homes, pair),
+            Row::D(sandbox) => repeats::box_seen(&self.boxes, sandbox),
+            Row::T(tuple) => repeats::tuple_seen(&self.keys, self.tally.tuples, tuple),
+            Row::L(root) => repeats::root_seen(&self.roots, self.tally.roots, root),
             _ => false,
         }
     }
 
     // Whether the row is let through.
-    fn admits(&self, row: RowData) -> Result<(), Reason>
-        requires { row_good row ≡ true }
-        ensures judged { (above : List Row) → NetHolds a_net above self.now → judge a_net above (row_view row) ≡ judged_by result (row_data row) }
-        ensures passed { OnOk result (Passed row self.now.tally) }
+    fn admits(&self, row: &Row) -> Result<(), Reason>
+        ensures judged { (above : List Spec.Row) → NetHolds a_net above self.now → judge a_net above (some (row_data row.now)) ≡ judged_by result (row_data row.now) }
+        ensures passed { OnOk result (Passed row.now self.now.tally) }
     {
-        scan::early(row, self.is_full(row.group), self.is_placed(row.group))?;
+        let group = row.group();
+        scan::early(row, self.is_full(group), self.is_placed(group))?;
         if self.is_seen(row) {
             return Err(Reason::Place);
         }
@@ -89,31 +87,30 @@ impl NetReader {
     }
 
     // The row put into its table, and not counted yet.
-    fn put(&mut self, row: RowData)
-        requires row_value { row_good row ≡ true }
-        requires passed { Passed row self.old.tally }
+    fn put(&mut self, row: &Row)
+        requires { Passed row.now self.old.tally }
         ensures tally_same { self.new.tally ≡ self.old.tally }
-        ensures tables { (above : List Row) → NetTables above self.old self.old.tally → NetTables (above ++ (row_data row ∷ [])) self.new (counted_of row self.old.tally) }
+        ensures tables { (above : List Spec.Row) → NetTables above self.old self.old.tally → NetTables (above ++ (row_data row.now ∷ [])) self.new (counted_of row.now self.old.tally) }
     {
-        match row.group {
-            GROUP_R => stores::put_pair(&mut self.homes, row),
-            GROUP_D => stores::put_box(&mut self.boxes, row),
-            GROUP_T => {
-                stores::put_row(&mut self.tuples, self.tally.tuples, row);
-                repeats::keep_key(&mut self.keys, self.tally.tuples, row);
+        match row {
+            Row::R(pair) => stores::put_pair(&mut self.homes, pair),
+            Row::D(sandbox) => stores::put_box(&mut self.boxes, sandbox),
+            Row::T(tuple) => {
+                stores::put_row(&mut self.tuples, self.tally.tuples, tuple);
+                repeats::keep_key(&mut self.keys, self.tally.tuples, tuple);
             }
-            GROUP_L => stores::put_root(&mut self.roots, self.tally.roots, row),
-            GROUP_Q => stores::put_process(&mut self.lines, self.tally.lines, row),
+            Row::L(root) => stores::put_root(&mut self.roots, self.tally.roots, root),
+            Row::Q(process) => stores::put_process(&mut self.lines, self.tally.lines, process),
             _ => {}
         }
     }
 
     // The net, or why the text as a whole is refused.
     fn finish(&self) -> Result<Net, Refusal>
-        ensures { (rows : List Row) → NetHolds a_net rows self.now → answer_of net_view result ≡ whole_net rows }
+        ensures { (rows : List Spec.Row) → NetHolds a_net rows self.now → answer_of net_view result ≡ whole_net rows }
     {
         let tally = self.tally;
-        if tally.last == 0 {
+        if tally.last.is_none() {
             return Err(Refusal {
                 why: Reason::Place,
                 row: 1,
@@ -145,7 +142,7 @@ impl NetReader {
 impl Reader for NetReader {
     ghost holds = { NetHolds };
 
-    fn take(&mut self, row: RowData) -> Result<(), Reason> {
+    fn take(&mut self, row: &Row) -> Result<(), Reason> {
         self.admits(row)?;
         self.put(row);
         self.tally.count(row);
@@ -192,7 +189,16 @@ fn fill_unsaid(boxes: &mut [u8; BOXES])
 pub fn read_net(s: &[u8]) -> Result<Net, Refusal>
     ensures { answer_of net_view result ≡ read_net s.now }
 {
-    let mut reader = NetReader::new();
+    // Made in its place: given by a function it is copied twice, and reading a short net misses its bar of speed.
+    let mut reader = NetReader {
+        homes: [0; 1024],
+        boxes: [UNSAID; 1056],
+        tuples: [0; 1536],
+        keys: [0; 256],
+        roots: [0; 128],
+        lines: [0; 2560],
+        tally: Tally::start(0),
+    };
     scan::read(&mut reader, s)?;
     reader.finish()
 }

@@ -8,27 +8,52 @@ use Prim.Native.Nat.{ℕ, ◌+◌, ◌*◌, ◌<◌, ◌^◌}
 use native.Mathlib.Omega.{arith}
 use lib.Dec.{eqb, ltb}
 use lib.ListN.{get_or, length-replicate, get_or-replicate}
-use borrow.Author.Tests.{ltb-true}
-use Rattle.sets.specs.Lists.{All, ◌&◌, any, same}
+use Rattle.sets.specs.Lists.{All, ◌&◌, all, any, same}
 use Rattle.sets.specs.Bits.{mem, grant, joins}
-use Rattle.sets.proofs.Lists.{iff, and_l, eqb_eq, eq-eqb, In-All, All-in, All-turn, keep_out, and_true, and_yes}
+use Rattle.sets.proofs.Lists.{iff, or_case, and_l, eqb_eq, eq-eqb, In-All, All-in, All-turn, keep_out, and_true, and_yes}
 use Rattle.sets.proofs.Tables.{get_or_table}
 use Rattle.klaim.specs.Limits.{boxes_size}
 use Rattle.klaim.specs.Rows.{Row, group_r, group_d, group_t, group_l, group_q, group_b, group_a, group_e}
-use Rattle.klaim.specs.Net.{Root}
+use Rattle.klaim.specs.Net as Net
 use Rattle.klaim.specs.Reader.{in_limits, of_group, key, repeated, nth, gather, pair_place, box_place, put_boxes, root_of}
 use Rattle.klaim.proofs.Within.{within}
 use Rattle.klaim.proofs.BoxRows.{place_low, places_keys}
 use Rattle.klaim.proofs.Above.{taken, boxes_mark}
 use Rattle.text.specs.Fields.{unsaid}
-use Rattle.forms.specs.declared.RowData.{RowData}
-use Rattle.forms.specs.Forms.{row_data, row_good, pair_group, tuple_group}
-use Rattle.forms.proofs.RowForms.{pair_case, tuple_case, pair_some, tuple_some}
-use Rattle.judge.proofs.Limits.{group_is}
+use Rattle.forms.specs.declared.rows.Pair.{Pair}
+use Rattle.forms.specs.declared.rows.Sandbox.{Sandbox}
+use Rattle.forms.specs.declared.rows.Tuple.{Tuple}
+use Rattle.forms.specs.declared.rows.Root.{Root}
+use Rattle.forms.specs.declared.rows.Bound.{Bound}
+use Rattle.forms.specs.Forms.{pair_group, tuple_group, sites_of, pair_data, box_data, tuple_data, root_data, bound_data}
 use Rattle.repeats.specs.Kept.{Kept, unsaid_boxes, root_same, tuple_key}
 use Rattle.repeats.proofs.Marks.{any_keep, any_map, joins_some, joins_mem, two_same}
 use Rattle.repeats.proofs.Keys.{key_same}
 use Rattle.repeats.proofs.Rows.{PairRow, BoundRow, RootRow, pair_row, box_row, bound_row, root_row, tuple_row, kept_pair, kept_box, kept_bound, kept_root, kept_tuple}
+
+-- the groups of rows
+pair_own : (g : ℕ) (p : Pair) → (pair_data g p).group ≡ g
+unfolding pair_data
+pair_own g p = refl
+
+box_own : (b : Sandbox) → (box_data b).group ≡ group_d
+unfolding box_data
+box_own b = refl
+
+bound_own : (b : Bound) → (bound_data b).group ≡ group_b
+unfolding bound_data
+bound_own b = refl
+
+pub tuple_own : (g : ℕ) (t : Tuple) → (tuple_data g t).group ≡ g
+unfolding tuple_data
+tuple_own g t = refl
+
+root_own : (r : Root) → (root_data r).group ≡ group_l
+unfolding root_data
+root_own r = refl
+
+tuple_keyed : (g : ℕ) (t : Tuple) → key (tuple_data g t) ≡ (tuple_data g t).group ∷ sites_of t
+tuple_keyed g t = tuple_row g t ∙ ap (λ x. x ∷ sites_of t) (sym (tuple_own g t))
 
 -- rows of two groups have two keys
 key_split : (b r : Row) (g : ℕ) → r.group ≡ g → (p : Bool) → (b.group ≡ g → same (key b) (key r) ≡ p) → same (key b) (key r) ≡ (eqb b.group g & p)
@@ -84,11 +109,12 @@ module _ (r : Row) (g : ℕ) (own : r.group ≡ g) (not-q : eqb g group_q ≡ fa
 
 -- R and E rows
 pair_no_q : (g : ℕ) → pair_group g ≡ true → eqb g group_q ≡ false
-pair_no_q g p = go (pair_case g p)
+unfolding pair_group
+pair_no_q g p = go (or_case (eqb g group_r) (eqb g group_e) p)
   where
-    go : (g ≡ group_r) ⊎ (g ≡ group_e) → eqb g group_q ≡ false
-    go (inl e) = rw e
-    go (inr e) = rw e
+    go : (eqb g group_r ≡ true) ⊎ (eqb g group_e ≡ true) → eqb g group_q ≡ false
+    go (inl e) = let q : g ≡ group_r = eqb_eq e in rw q refl
+    go (inr e) = let q : g ≡ group_e = eqb_eq e in rw q refl
 
 pair_alike : {s t s' t' : ℕ} {b r : Row} → PairRow s t b → PairRow s' t' r → b.group ≡ r.group → same (key b) (key r) ≡ eqb (pair_place b) (pair_place r)
 pair_alike {s} {t} {s'} {t'} {b} {r} B R e =
@@ -97,14 +123,13 @@ pair_alike {s} {t} {s'} {t'} {b} {r} B R e =
     ∙ two_same (λ x y. 32 * x + y) s t s' t' (λ q. (omega (arith, B.t_low, R.t_low), omega (arith, B.t_low, R.t_low)))
     ∙ sym (ap₂ eqb B.placed R.placed)
 
-module _ (row : RowData) (G : row_good row ≡ true) (L : in_limits (row_data row) ≡ true) where
-  pub pair_seen : (P : pair_group row.group ≡ true) (at : ℕ) → at ≡ pair_place (row_data row) → (t : List ℕ) {above : List Row} → All Kept above → t ≡ gather 1024 pair_place (λ x. x.rights) (of_group row.group above) → not (eqb (get_or t at 0) 0) ≡ repeated above (row_data row)
-  pair_seen P at a t {above} K e =
-      let R = pair_row row G L P in
-      let g = group_is row G (ltb-true 0 row.group (pair_some row.group P)) in
-      let of : (b : Row) → Kept b → b.group ≡ row.group → pair_group b.group ≡ true = λ b k q. subst (λ (x : ℕ). pair_group x ≡ true) (sym q) P in
-      ap₂ (λ (l : List ℕ) (i : ℕ). not (eqb (get_or l i 0) 0)) e a
-      ∙ place_seen (row_data row) row.group g (pair_no_q row.group P) pair_place (λ b k q. (pair_alike (kept_pair k (of b k q)) R (q ∙ sym g), (kept_pair k (of b k q)).some)) 1024 (omega (arith, R.placed, R.s_low, R.t_low)) K
+pub pair_seen : (p : Pair) → p.from < 32 → p.to < 32 → (g : ℕ) → pair_group g ≡ true → (at : ℕ) → at ≡ pair_place (pair_data g p) → (t : List ℕ) {above : List Row} → All Kept above → t ≡ gather 1024 pair_place (λ x. x.rights) (of_group g above) → not (eqb (get_or t at 0) 0) ≡ repeated above (pair_data g p)
+pair_seen p s u g P at a t {above} K e =
+    let R = pair_row g p s u in
+    let own = pair_own g p in
+    let of : (b : Row) → Kept b → b.group ≡ g → pair_group b.group ≡ true = λ b k q. subst (λ (x : ℕ). pair_group x ≡ true) (sym q) P in
+    ap₂ (λ (l : List ℕ) (i : ℕ). not (eqb (get_or l i 0) 0)) e a
+    ∙ place_seen (pair_data g p) g own (pair_no_q g P) pair_place (λ b k q. (pair_alike (kept_pair k (of b k q)).1 R (q ∙ sym own), (kept_pair k (of b k q)).1.some)) 1024 (omega (arith, R.placed, R.s_low, R.t_low)) K
 
 -- a place of the sandboxes' table that says rights
 pub box_said : (i : ℕ) → i < boxes_size → {above : List Row} → All Kept above → ltb (get_or (put_boxes unsaid_boxes (of_group group_d above)) i 0) unsaid ≡ taken i (of_group group_d above)
@@ -118,30 +143,30 @@ bound_alike {u} {s} {v} {t} {b} {r} B R e =
     ∙ two_keys u s v t
     ∙ sym (ap₂ ◌&◌ (ap₂ eqb B.var_is R.var_is) (ap₂ eqb B.site_is R.site_is))
 
-module _ (row : RowData) (G : row_good row ≡ true) (L : in_limits (row_data row) ≡ true) where
-  pub box_seen : row.group ≡ group_d → (at : ℕ) → at ≡ box_place (row_data row) → (t : List ℕ) {above : List Row} → All Kept above → t ≡ put_boxes unsaid_boxes (of_group group_d above) → ltb (get_or t at 0) unsaid ≡ repeated above (row_data row)
-  box_seen P at a t {above} K e =
-      let R = box_row row G L P in
-      let g = group_is row G (omega arith) ∙ P in
-      ap₂ (λ (l : List ℕ) (i : ℕ). ltb (get_or l i 0) unsaid) e a
-      ∙ box_said (box_place (row_data row)) (place_low (row_data row) R.low R.shaped) K
-      ∙ sym (repeat_any (row_data row) group_d g refl (λ b. eqb (box_place b) (box_place (row_data row))) (λ b k q. let B = kept_box k q in places_keys B.shaped R.shaped B.low R.low (q ∙ sym g)) K)
+pub box_seen : (x : Sandbox) → in_limits (box_data x) ≡ true → (at : ℕ) → at ≡ box_place (box_data x) → (t : List ℕ) {above : List Row} → All Kept above → t ≡ put_boxes unsaid_boxes (of_group group_d above) → ltb (get_or t at 0) unsaid ≡ repeated above (box_data x)
+box_seen x L at a t {above} K e =
+    let R = box_row x L in
+    let own = box_own x in
+    ap₂ (λ (l : List ℕ) (i : ℕ). ltb (get_or l i 0) unsaid) e a
+    ∙ box_said (box_place (box_data x)) (place_low (box_data x) R.low R.shaped) K
+    ∙ sym (repeat_any (box_data x) group_d own refl (λ b. eqb (box_place b) (box_place (box_data x))) (λ b k q. let B = kept_box k q in places_keys B.shaped R.shaped B.low R.low (q ∙ sym own)) K)
 
-  pub bound_seen : row.group ≡ group_b → (s u : ℕ) → s ≡ nth (row_data row).sites 0 → u ≡ nth (row_data row).vars 0 → (t : List ℕ) {above : List Row} → All Kept above → t ≡ gather 32 (λ x. nth x.vars 0) (λ x. 2 ^ nth x.sites 0) (of_group group_b above) → mem s (get_or t u 0) ≡ repeated above (row_data row)
-  bound_seen P s u p q t {above} K e =
-      let R = bound_row row G L P in
-      let g = group_is row G (omega arith) ∙ P in
-      ap₂ (λ (s u : ℕ). mem s (get_or t u 0)) p q
-      ∙ ap (λ (l : List ℕ). mem (nth (row_data row).sites 0) (get_or l (nth (row_data row).vars 0) 0)) e
-      ∙ site_seen (row_data row) group_b g refl (λ x. nth x.vars 0) (λ x. nth x.sites 0) (λ b k q. bound_alike (kept_bound k q) R (q ∙ sym g)) 32 (omega (arith, R.var_is, R.u_low)) K
+pub bound_seen : (x : Bound) → x.variable < 32 → x.site < 32 → (t : List ℕ) {above : List Row} → All Kept above → t ≡ gather 32 (λ x. nth x.vars 0) (λ x. 2 ^ nth x.sites 0) (of_group group_b above) → mem x.site (get_or t x.variable 0) ≡ repeated above (bound_data x)
+bound_seen x u s t {above} K e =
+    let R = bound_row x u s in
+    let own = bound_own x in
+    ap₂ (λ (s u : ℕ). mem s (get_or t u 0)) (sym R.site_is) (sym R.var_is)
+    ∙ ap (λ (l : List ℕ). mem (nth (bound_data x).sites 0) (get_or l (nth (bound_data x).vars 0) 0)) e
+    ∙ site_seen (bound_data x) group_b own refl (λ x. nth x.vars 0) (λ x. nth x.sites 0) (λ b k q. bound_alike (kept_bound k q).1 R (q ∙ sym own)) 32 (omega (arith, R.var_is, R.u_low)) K
 
 -- T and A rows
 tuple_no_q : (g : ℕ) → tuple_group g ≡ true → eqb g group_q ≡ false
-tuple_no_q g p = go (tuple_case g p)
+unfolding tuple_group
+tuple_no_q g p = go (or_case (eqb g group_t) (eqb g group_a) p)
   where
-    go : (g ≡ group_t) ⊎ (g ≡ group_a) → eqb g group_q ≡ false
-    go (inl e) = rw e
-    go (inr e) = rw e
+    go : (eqb g group_t ≡ true) ⊎ (eqb g group_a ≡ true) → eqb g group_q ≡ false
+    go (inl e) = let q : g ≡ group_t = eqb_eq e in rw q refl
+    go (inr e) = let q : g ≡ group_a = eqb_eq e in rw q refl
 
 -- L rows
 root_alike : {s q t p : ℕ} {b r : Row} → RootRow s q b → RootRow t p r → b.group ≡ r.group → same (key b) (key r) ≡ root_same t p (root_of b)
@@ -149,22 +174,14 @@ unfolding root_same
 root_alike {s} {q} {t} {p} {b} {r} B R e =
     keys_same b r (s ∷ q ∷ []) (t ∷ p ∷ []) B.keyed R.keyed e
     ∙ two_keys s q t p
-    ∙ ap (λ (x : Root). eqb x.site t & eqb x.line p) (sym B.root_is)
+    ∙ ap (λ (x : Net.Root). eqb x.site t & eqb x.line p) (sym B.root_is)
 
-module _ (row : RowData) (G : row_good row ≡ true) (L : in_limits (row_data row) ≡ true) where
-  pub tuple_seen : (P : tuple_group row.group ≡ true) (k : ℕ) → k ≡ tuple_key (row_data row).sites → (xs : List ℕ) {above : List Row} → All Kept above → xs ≡ map (λ x. tuple_key x.sites) (of_group row.group above) → any (λ x. eqb x k) xs ≡ repeated above (row_data row)
-  tuple_seen P k s xs {above} K e =
-      let g = group_is row G (ltb-true 0 row.group (tuple_some row.group P)) in
-      let of : (b : Row) → Kept b → b.group ≡ row.group → tuple_group b.group ≡ true = λ b k q. subst (λ (x : ℕ). tuple_group x ≡ true) (sym q) P in
-      list_seen (row_data row) row.group g (tuple_no_q row.group P) (λ x. tuple_key x.sites) (λ x. eqb x k)
-      (λ b kept q. keys_same b (row_data row) b.sites (row_data row).sites (kept_tuple kept (of b kept q)) (tuple_row row G L P) (q ∙ sym g) ∙ key_same b.sites (row_data row).sites (within b kept.low).sites_low (within (row_data row) L).sites_low ∙ ap (eqb (tuple_key b.sites)) (sym s)) xs K e
+pub tuple_seen : (x : Tuple) → all (λ s. ltb s 32) (sites_of x) ≡ true → (g : ℕ) → tuple_group g ≡ true → (k : ℕ) → k ≡ tuple_key (sites_of x) → (xs : List ℕ) {above : List Row} → All Kept above → xs ≡ map (λ x. tuple_key x.sites) (of_group g above) → any (λ x. eqb x k) xs ≡ repeated above (tuple_data g x)
+tuple_seen x L g P k s xs {above} K e =
+    let own = tuple_own g x in
+    let of : (b : Row) → Kept b → b.group ≡ g → tuple_group b.group ≡ true = λ b k q. subst (λ (x : ℕ). tuple_group x ≡ true) (sym q) P in
+    list_seen (tuple_data g x) g own (tuple_no_q g P) (λ x. tuple_key x.sites) (λ x. eqb x k)
+    (λ b kept q. keys_same b (tuple_data g x) b.sites (sites_of x) (kept_tuple kept (of b kept q)) (tuple_keyed g x) (q ∙ sym own) ∙ key_same b.sites (sites_of x) (within b kept.low).sites_low L ∙ ap (eqb (tuple_key b.sites)) (sym s)) xs K e
 
-  pub root_seen : row.group ≡ group_l → (s q : ℕ) → s ≡ nth (row_data row).sites 0 → q ≡ nth (row_data row).lines 0 → (xs : List Root) {above : List Row} → All Kept above → xs ≡ map root_of (of_group group_l above) → any (root_same s q) xs ≡ repeated above (row_data row)
-  unfolding root_of
-  root_seen P s q a b xs {above} K e =
-      let R = root_row row G L P in
-      let site : s ≡ row.line.target.number = a ∙ ap (λ (x : Root). x.site) R.root_is in
-      let line : q ≡ row.own = b ∙ ap (λ (x : Root). x.line) R.root_is in
-      let g = group_is row G (omega arith) ∙ P in
-      ap₂ (λ (s q : ℕ). any (root_same s q) xs) site line
-      ∙ list_seen (row_data row) group_l g refl root_of (root_same row.line.target.number row.own) (λ b k q. root_alike (kept_root k q) R (q ∙ sym g)) xs K e
+pub root_seen : (x : Root) → x.site < 32 → x.line < 256 → (xs : List Net.Root) {above : List Row} → All Kept above → xs ≡ map root_of (of_group group_l above) → any (root_same x.site x.line) xs ≡ repeated above (root_data x)
+root_seen x s q xs {above} K e = list_seen (root_data x) group_l (root_own x) refl root_of (root_same x.site x.line) (λ b k p. root_alike (kept_root k p).1 (root_row x s q) (p ∙ sym (root_own x))) xs K e

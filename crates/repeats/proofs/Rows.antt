@@ -3,20 +3,26 @@
 use mathlib.Core.Path.{◌≡◌, refl, sym, ap, subst, ◌∙◌}
 use mathlib.Core.Bool.{true}
 use mathlib.Core.List.{List, [], ◌∷◌}
-use Prim.Native.Nat.{ℕ, ◌+◌, ◌*◌, ◌<◌}
-use lib.Dec.{eqb}
+use Prim.Native.Nat.{ℕ, ◌+◌, ◌*◌, ◌<◌, ◌≤◌}
+use native.Mathlib.Omega.{arith}
+use lib.ListN.{length}
 use Rattle.sets.specs.Lists.{◌⧺◌}
-use Rattle.sets.proofs.Lists.{only_few}
 use Rattle.sets.proofs.Runs.{cat_none}
 use Rattle.klaim.specs.Rows.{Row, group_d, group_l, group_b}
 use Rattle.klaim.specs.Reader.{in_limits, key, nth, pair_place, root_of}
 use Rattle.klaim.proofs.BoxRows.{BoxShaped}
+use Rattle.text.specs.declared.Toward.{Toward}
+use Rattle.text.specs.declared.Toward.TheVariants.{Site, Own}
 use Rattle.text.specs.Fields.{unsaid, sites_to}
-use Rattle.forms.specs.declared.RowData.{RowData}
-use Rattle.forms.specs.Forms.{row_data, row_good, pair_group, tuple_group}
-use Rattle.forms.proofs.RowForms.{row_as}
-use Rattle.judge.proofs.Limits.{group_is}
-use Rattle.stores.proofs.Shapes as Shapes
+use Rattle.forms.specs.declared.rows.Pair.{Pair}
+use Rattle.forms.specs.declared.rows.Sandbox.{Sandbox}
+use Rattle.forms.specs.declared.rows.Tuple.{Tuple}
+use Rattle.forms.specs.declared.rows.Root.{Root}
+use Rattle.forms.specs.declared.rows.Bound.{Bound}
+use Rattle.forms.specs.declared.rows.Row as Form
+use Rattle.forms.specs.Forms.{pair_group, tuple_group, sites_of, pair_data, box_data, tuple_data, root_data, bound_data, row_data}
+use Rattle.forms.proofs.Groups.{as_pair, as_sandbox, as_tuple, as_root, as_bound}
+use Rattle.judge.proofs.Limits.{pair_low, root_low, bound_low}
 use Rattle.repeats.specs.Kept.{Kept}
 
 -- R and E rows
@@ -48,67 +54,70 @@ pub record RootRow (s q : ℕ) (x : Row) : Type 0 where
   pub s_low : s < 32
   pub q_low : q < 256
 
--- T and A rows
-tuple_as : (g z w : ℕ) (ss : List ℕ) → key (row_as g z [] [] ss [] w) ≡ g ∷ ss
-unfolding key ◌⧺◌
-tuple_as g z w ss = ap (λ (l : List ℕ). g ∷ l) (cat_none ss)
-
 -- what the code's form of a row stands for
-module _ (r : RowData) (G : row_good r ≡ true) (L : in_limits (row_data r) ≡ true) where
-  pub pair_row : pair_group r.group ≡ true → PairRow r.line.target.number r.line.fields.a.number (row_data r)
-  unfolding key pair_place ◌⧺◌
-  pair_row p =
-      let P = Shapes.pair_row r G L p in
-      subst (λ (x : Row). PairRow r.line.target.number r.line.fields.a.number x) (sym P.row_is)
-      (record { keyed = refl; placed = refl; some = P.some; s_low = P.from_low; t_low = P.to_low })
+pub pair_row : (g : ℕ) (p : Pair) → p.from < 32 → p.to < 32 → PairRow p.from p.to (pair_data g p)
+unfolding key pair_place ◌⧺◌ pair_data
+pair_row g p s t = record { keyed = refl; placed = refl; some = p.some; s_low = s; t_low = t }
 
-  pub box_row : r.group ≡ group_d → BoxRow (row_data r)
-  unfolding key sites_to ◌⧺◌
-  box_row p =
-      let P = Shapes.box_row r G L p in
-      let shape : BoxShaped (row_data r) = subst BoxShaped (sym P.row_is) (record { boxes_one = refl; sites_few = only_few (eqb r.line.target.kind 1) r.line.target.number; key_is = refl }) in
-      record { shaped = shape; low = L; said = rw P.row_is P.said }
+few : (t : Toward) → length (sites_to t) ≤ 1
+unfolding sites_to
+few (Site s) = omega arith
+few Own = omega arith
 
-  pub bound_row : r.group ≡ group_b → BoundRow r.variable r.line.target.number (row_data r)
-  unfolding key ◌⧺◌
-  bound_row p =
-      let P = Shapes.bound_row r G L p in
-      subst (λ (x : Row). BoundRow r.variable r.line.target.number x) (sym P.row_is)
-      (record { keyed = refl; var_is = refl; site_is = refl; u_low = P.variable_low; s_low = P.site_low })
+pub box_row : (b : Sandbox) → in_limits (box_data b) ≡ true → BoxRow (box_data b)
+unfolding key ◌⧺◌ box_data
+box_row b L = record { shaped = record { boxes_one = refl; sites_few = few b.toward; key_is = refl }; low = L; said = b.said }
 
-  pub root_row : r.group ≡ group_l → RootRow r.line.target.number r.own (row_data r)
-  unfolding key root_of ◌⧺◌
-  root_row p =
-      let P = Shapes.root_row r G L p in
-      subst (λ (x : Row). RootRow r.line.target.number r.own x) (sym P.row_is)
-      (record { keyed = refl; root_is = refl; s_low = P.site_low; q_low = P.line_low })
+pub bound_row : (b : Bound) → b.variable < 32 → b.site < 32 → BoundRow b.variable b.site (bound_data b)
+unfolding key ◌⧺◌ bound_data
+bound_row b u s = record { keyed = refl; var_is = refl; site_is = refl; u_low = u; s_low = s }
 
-  pub tuple_row : tuple_group r.group ≡ true → key (row_data r) ≡ (row_data r).group ∷ (row_data r).sites
-  tuple_row p = subst (λ (x : Row). key x ≡ x.group ∷ x.sites) (sym (Shapes.tuple_row r G L p).row_is) (tuple_as _ _ _ _)
+pub root_row : (r : Root) → r.site < 32 → r.line < 256 → RootRow r.site r.line (root_data r)
+unfolding key root_of ◌⧺◌ root_data
+root_row r s q = record { keyed = refl; root_is = refl; s_low = s; q_low = q }
+
+pub tuple_row : (g : ℕ) (t : Tuple) → key (tuple_data g t) ≡ g ∷ sites_of t
+unfolding key ◌⧺◌ tuple_data
+tuple_row g t = ap (λ (l : List ℕ). g ∷ l) (cat_none (sites_of t))
 
 -- a row that stands above
-pub kept_group : {b : Row} (k : Kept b) → k.row.group ≡ b.group
-kept_group k = sym (group_is k.row k.good k.some) ∙ ap (λ (x : Row). x.group) k.is
-
-kept_low : {b : Row} (k : Kept b) → in_limits (row_data k.row) ≡ true
-kept_low k = subst (λ (x : Row). in_limits x ≡ true) (sym k.is) k.low
-
 module _ {b : Row} (k : Kept b) where
-  pub kept_pair : pair_group b.group ≡ true → PairRow k.row.line.target.number k.row.line.fields.a.number b
-  kept_pair p = subst (λ (x : Row). PairRow k.row.line.target.number k.row.line.fields.a.number x) k.is (pair_row k.row k.good (kept_low k) (rw (kept_group k) p))
+  kept_group : (row_data k.row).group ≡ b.group
+  kept_group = ap (λ (x : Row). x.group) k.is
+
+  same_row : {x : Row} → row_data k.row ≡ x → x ≡ b
+  same_row e = sym e ∙ k.is
+
+  kept_low : {x : Row} → row_data k.row ≡ x → in_limits x ≡ true
+  kept_low e = subst (λ (x : Row). in_limits x ≡ true) (sym (same_row e)) k.low
+
+  pub kept_pair : pair_group b.group ≡ true → (p : Pair) × PairRow p.from p.to b
+  kept_pair h =
+      let e = as_pair k.row (subst (λ (x : ℕ). pair_group x ≡ true) (sym kept_group) h) in
+      let l = pair_low (row_data k.row).group e.0 (kept_low e.1) in
+      (e.0, subst (λ (x : Row). PairRow e.0.from e.0.to x) (same_row e.1) (pair_row _ e.0 l.0 l.1))
 
   pub kept_box : b.group ≡ group_d → BoxRow b
-  kept_box p = subst BoxRow k.is (box_row k.row k.good (kept_low k) (kept_group k ∙ p))
+  kept_box h = let e = as_sandbox k.row (kept_group ∙ h) in subst BoxRow (same_row e.1) (box_row e.0 (kept_low e.1))
 
-  pub kept_bound : b.group ≡ group_b → BoundRow k.row.variable k.row.line.target.number b
-  kept_bound p = subst (λ (x : Row). BoundRow k.row.variable k.row.line.target.number x) k.is (bound_row k.row k.good (kept_low k) (kept_group k ∙ p))
+  pub kept_bound : b.group ≡ group_b → (x : Bound) × BoundRow x.variable x.site b
+  kept_bound h =
+      let e = as_bound k.row (kept_group ∙ h) in
+      let l = bound_low e.0 (kept_low e.1) in
+      (e.0, subst (λ (x : Row). BoundRow e.0.variable e.0.site x) (same_row e.1) (bound_row e.0 l.0 l.1))
 
-  pub kept_root : b.group ≡ group_l → RootRow k.row.line.target.number k.row.own b
-  kept_root p = subst (λ (x : Row). RootRow k.row.line.target.number k.row.own x) k.is (root_row k.row k.good (kept_low k) (kept_group k ∙ p))
+  pub kept_root : b.group ≡ group_l → (x : Root) × RootRow x.site x.line b
+  kept_root h =
+      let e = as_root k.row (kept_group ∙ h) in
+      let l = root_low e.0 (kept_low e.1) in
+      (e.0, subst (λ (x : Row). RootRow e.0.site e.0.line x) (same_row e.1) (root_row e.0 l.0 l.1))
 
   pub kept_tuple : tuple_group b.group ≡ true → key b ≡ b.group ∷ b.sites
-  kept_tuple p = subst (λ (x : Row). key x ≡ x.group ∷ x.sites) k.is (tuple_row k.row k.good (kept_low k) (rw (kept_group k) p))
+  unfolding tuple_data
+  kept_tuple h =
+      let e = as_tuple k.row (subst (λ (x : ℕ). tuple_group x ≡ true) (sym kept_group) h) in
+      subst (λ (x : Row). key x ≡ x.group ∷ x.sites) (same_row e.1) (tuple_row _ e.0)
 
 -- the row that is read, as one of those
-pub as_kept : (r : RowData) → row_good r ≡ true → in_limits (row_data r) ≡ true → 0 < r.group → Kept (row_data r)
-as_kept r G L h = record { row = r; is = refl; good = G; some = h; low = L }
+pub as_kept : (r : Form.Row) → in_limits (row_data r) ≡ true → Kept (row_data r)
+as_kept r L = record { row = r; is = refl; low = L }

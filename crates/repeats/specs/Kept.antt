@@ -1,21 +1,19 @@
 -- The rows above the one that is read.
 -- Assumes nothing.
-use Rattle.std.specs.Prelude.{◌≡◌, Bool, true, cond, List, [], ◌∷◌, map, ℕ, ◌+◌, ◌*◌, ◌<◌, eqb, ltb, replicate, take}
+use Rattle.std.specs.Prelude.{◌≡◌, Bool, true, cond, List, [], ◌∷◌, map, ℕ, ◌+◌, ◌*◌, eqb, ltb, replicate, take}
 use Rattle.sets.specs.Lists.{◌&◌}
 use Rattle.klaim.specs.Limits.{boxes_size}
 use Rattle.klaim.specs.Rows.{Row}
 use Rattle.klaim.specs.Net.{Root}
 use Rattle.klaim.specs.Reader.{in_limits, of_group}
 use Rattle.text.specs.Fields.{unsaid}
-use Rattle.forms.specs.declared.RowData.{RowData}
-use Rattle.forms.specs.Forms.{row_data, row_good}
+use Rattle.forms.specs.declared.rows.Row as Form
+use Rattle.forms.specs.Forms.{row_data}
 
 -- a row that stands above: it was of good form and within limits
 pub record Kept (r : Row) : Type 0 where
-  pub row : RowData
+  pub row : Form.Row
   pub is : row_data row ≡ r
-  pub good : row_good row ≡ true
-  pub some : 0 < row.group
   pub low : in_limits r ≡ true
 
 -- the sandboxes' table with no row put into it: no place says rights

@@ -2,7 +2,7 @@
 -- Assumes nothing.
 use mathlib.Core.Path.{◌≡◌, refl, sym, ap, subst, ◌∙◌}
 use mathlib.Core.List.{List, [], ◌∷◌, ◌++◌}
-use mathlib.Core.Option.{Option}
+use mathlib.Core.Option.{Option, none}
 use Prim.Native.Nat.{ℕ, zero, suc, ◌+◌, ◌-◌, ◌<◌, ◌≤◌}
 use native.Mathlib.Omega.{arith}
 use lib.ListN.{length, take, drop, replicate, length-append}
@@ -13,9 +13,6 @@ use Rattle.klaim.specs.Reader.{refused, gives, Text, Judged, bad, good, judge, s
 use Rattle.text.specs.Pieces.{end_of}
 use Rattle.text.proofs.Pieces.{end_le}
 use Rattle.text.proofs.Rows.{rows_next, rows_left_lem, rows_end}
-use Rattle.forms.specs.declared.RowData.{RowData}
-use Rattle.forms.specs.Forms.{row_view, row_data}
-use Rattle.forms.proofs.Views.{view_none}
 use Rattle.scan.specs.Progress.{rows_left, Progress}
 
 -- at the beginning no row is read
@@ -24,29 +21,34 @@ unfolding read_rows rows_of
 progress_none t bytes p = record { above = []; many = refl; held = p; rest = refl }
 
 -- the row that ends at e, and the rows behind it
-module _ (s : List ℕ) (at e : ℕ) (q : e ≡ end_of newline s at) (r : RowData) where
-  pub row_whole : at < length s → e < length s → row_view r ≡ row_of (take (e - at) (drop at s)) → rows_left s at ≡ row_view r ∷ rows_left s (e + 1)
+module _ (s : List ℕ) (at e : ℕ) (q : e ≡ end_of newline s at) where
+  pub row_whole : {o : Option Row} → at < length s → e < length s → o ≡ row_of (take (e - at) (drop at s)) → rows_left s at ≡ o ∷ rows_left s (e + 1)
   row_whole h m v = rw v (rows_next s at e q (omega arith) m)
 
-  pub row_left : at < length s → length s ≤ e → r.group ≡ 0 → rows_left s at ≡ row_view r ∷ rows_left s (e + 1)
-  row_left h m g = rw (view_none r g, rows_end s (e + 1) (omega arith)) (rows_left_lem s at e q h m)
+  pub row_left : at < length s → length s ≤ e → rows_left s at ≡ none ∷ rows_left s (e + 1)
+  row_left h m = rw (rows_end s (e + 1) (omega arith)) (rows_left_lem s at e q h m)
 
 scan_by : (t : Text) (above : List Row) (o : Option Row) (os : List (Option Row)) {j : Judged} → judge t above o ≡ j → scan t above (o ∷ os) ≡ elim j [ bad n ↦ refused n (suc (length above)) | good r ↦ scan t (above ++ (r ∷ [])) os ]
 unfolding scan
 scan_by t above o os e = ap (λ (j : Judged). elim j [ bad n ↦ refused n (suc (length above)) | good r ↦ scan t (above ++ (r ∷ [])) os ]) e
 
 -- a row is let through, or refused
-module _ {t : Text} {P : List Row → Type 0} {bytes : List ℕ} {at count : ℕ} (R : Progress t P bytes at count) (row : RowData) (next : ℕ) (left : rows_left bytes at ≡ row_view row ∷ rows_left bytes next) where
-  pub progress_more : {Q : List Row → Type 0} → (judge t R.above (row_view row) ≡ good (row_data row)) × Q (R.above ++ (row_data row ∷ [])) → Progress t Q bytes next (count + 1)
-  progress_more j = record {
-    above = R.above ++ (row_data row ∷ []);
-    many = length-append R.above (row_data row ∷ []) ∙ ap (λ (n : ℕ). n + 1) R.many;
+module _ {t : Text} {P : List Row → Type 0} {bytes : List ℕ} {at count : ℕ} (R : Progress t P bytes at count) (o : Option Row) (next : ℕ) (left : rows_left bytes at ≡ o ∷ rows_left bytes next) where
+  pub progress_more : {Q : List Row → Type 0} (r : Row) → (judge t R.above o ≡ good r) × Q (R.above ++ (r ∷ [])) → Progress t Q bytes next (count + 1)
+  progress_more r j = record {
+    above = R.above ++ (r ∷ []);
+    many = length-append R.above (r ∷ []) ∙ ap (λ (n : ℕ). n + 1) R.many;
     held = j.1;
-    rest = R.rest ∙ ap (scan t R.above) left ∙ scan_by t R.above (row_view row) (rows_left bytes next) j.0;
+    rest = R.rest ∙ ap (scan t R.above) left ∙ scan_by t R.above o (rows_left bytes next) j.0;
   }
 
-  pub progress_bad : (n : ℕ) → judge t R.above (row_view row) ≡ bad n → read_rows t bytes ≡ refused n (count + 1)
-  progress_bad n j = R.rest ∙ ap (scan t R.above) left ∙ scan_by t R.above (row_view row) (rows_left bytes next) j ∙ ap (refused n) (omega (arith, R.many))
+  pub progress_bad : (n : ℕ) → judge t R.above o ≡ bad n → read_rows t bytes ≡ refused n (count + 1)
+  progress_bad n j = R.rest ∙ ap (scan t R.above) left ∙ scan_by t R.above o (rows_left bytes next) j ∙ ap (refused n) (omega (arith, R.many))
+
+-- a row without a form
+pub no_form : (t : Text) (above : List Row) → judge t above none ≡ bad 1
+unfolding judge
+no_form t above = refl
 
 -- all rows are read
 pub progress_end : {t : Text} {P : List Row → Type 0} {bytes : List ℕ} {at count : ℕ} → (R : Progress t P bytes at count) → length bytes ≤ at → read_rows t bytes ≡ gives R.above

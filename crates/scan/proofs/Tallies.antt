@@ -1,25 +1,29 @@
 -- The tests on the rows above, read off a tally of them.
 -- Assumes nothing.
-use mathlib.Core.Path.{◌≡◌, refl, sym, ap, subst, ◌∙◌}
-use mathlib.Core.Bool.{Bool, true, false, cond, ◌&&◌, false≢true}
+use mathlib.Core.Path.{◌≡◌, refl, sym, ap, ◌∙◌}
+use mathlib.Core.Logic.{◌⊎◌, inl, inr}
+use mathlib.Core.Bool.{Bool, true, false, cond, not, ◌&&◌, false≢true}
 use mathlib.Core.List.{List, [], ◌∷◌, ◌++◌, map}
 use Prim.Native.Nat.{ℕ, ◌+◌}
-use native.Mathlib.Omega.{arith}
 use lib.Dec.{eqb, leb}
 use lib.ListN.{length}
-use borrow.Author.Tests.{lt-ltb}
 use Rattle.sets.specs.Lists.{All, done, more, ◌&◌, only, keep, below, same, ◌⧺◌}
-use Rattle.sets.proofs.Lists.{eqb_eq, and_true, and_false, and_assoc}
+use Rattle.sets.proofs.Lists.{eqb_eq, not_no, not_yes, and_true, and_false, and_assoc}
 use Rattle.sets.proofs.Runs.{below_snoc}
-use Rattle.klaim.specs.Rows.{Row, group_n, group_l, group_q, row_line}
+use Rattle.klaim.specs.Rows.{Row, group_n, group_r, group_t, group_q, group_a, group_e, row_line}
 use Rattle.klaim.specs.Reader.{Text, of_group, own, nth, numbers_of}
 use Rattle.klaim.proofs.Above.{map_other, map_own}
-use Rattle.judge.proofs.Limits.{Good, q_row, plain_row_lem, good}
-use Rattle.forms.specs.declared.RowData.{RowData}
-use Rattle.forms.specs.Forms.{row_data, row_good, plain_row, tuple_group}
+use Rattle.forms.specs.declared.rows.Tuple.{Tuple}
+use Rattle.forms.specs.declared.rows.Root.{Root}
+use Rattle.forms.specs.declared.rows.Process.{Process}
+use Rattle.forms.specs.declared.rows.Row as Form
+use Rattle.forms.specs.declared.rows.Row.TheVariants.{N, R, D, T, L, Q, B, A, E}
+use Rattle.forms.specs.Forms.{group_of, row_data, size_data, pair_data, box_data, tuple_data, root_data, process_data, bound_data}
+use Rattle.std.specs.Prelude.{Option, None, Some, is_some}
+use Rattle.forms.specs.declared.rows.Group.{Group}
+use Rattle.forms.specs.declared.rows.Group.TheVariants as Groups
 use Rattle.scan.specs.declared.Tally.{Tally}
-use Rattle.scan.specs.Tallies as Tallies
-use Rattle.scan.specs.Tallies.{counted_of}
+use Rattle.scan.specs.Tallies.{last_number, counted_of}
 
 -- a test that is asked for only where another holds
 pub and_under : (a : Bool) {x y : Bool} → (a ≡ true → x ≡ y) → a & x ≡ a & y
@@ -72,34 +76,68 @@ none_full t g above O h limit o z = go (eqb g h) refl
     go true e = ap (λ (x : ℕ). leb limit (length (of_group x above))) (eqb_eq e) ∙ ap (λ (xs : List Row). leb limit (length xs)) (group_none t h above O o) ∙ z
     go false e = refl
 
--- what an N row and a Q row say
-module _ (r : RowData) (G : row_good r ≡ true) where
-  pub size_row : r.group ≡ group_n → (row_data r).size ≡ r.size
-  unfolding row_data plain_row row_line
-  size_row e = go (good r G (omega arith))
-    where
-      go : Good r → (row_data r).size ≡ r.size
-      go (q_row q k l P o) = absurd (omega arith)
-      go (plain_row_lem q k P) = rw k
+-- the tally with a row more
+pub counted_tuple : (r : Form.Row) (t : Tally) → ((x : Tuple) × (r ≡ T x)) ⊎ ((x : Tuple) × (r ≡ A x)) → record t { tuples = t.tuples + 1; last = Some (group_of r) } ≡ counted_of r t
+counted_tuple r t (inl e) = rw e.1 refl
+counted_tuple r t (inr e) = rw e.1 refl
 
-  pub own_row : r.group ≡ group_q → nth (row_data r).lines 0 ≡ r.own
-  unfolding row_data plain_row row_line
-  own_row e = go (good r G (omega arith))
-    where
-      go : Good r → nth (row_data r).lines 0 ≡ r.own
-      go (q_row q k l P o) = rw (lt-ltb 0 r.line.kind k)
-      go (plain_row_lem q k P) = absurd (false≢true (sym q ∙ rw e))
+pub counted_other : (r : Form.Row) (t : Tally) → ((n : ℕ) → r ≡ N n → ⊥) → ((x : Tuple) → r ≡ T x → ⊥) → ((x : Root) → r ≡ L x → ⊥) → ((p : Process) → r ≡ Q p → ⊥) → ((x : Tuple) → r ≡ A x → ⊥) → record t { last = Some (group_of r) } ≡ counted_of r t
+counted_other (N n) t a b c d e = absurd (a n refl)
+counted_other (R p) t a b c d e = refl
+counted_other (D x) t a b c d e = refl
+counted_other (T x) t a b c d e = absurd (b x refl)
+counted_other (L x) t a b c d e = absurd (c x refl)
+counted_other (Q p) t a b c d e = absurd (d p refl)
+counted_other (B x) t a b c d e = refl
+counted_other (A x) t a b c d e = absurd (e x refl)
+counted_other (E p) t a b c d e = refl
 
--- the tally with a row of group g
-abbrev pub grown : RowData → Tally → ℕ → Tally
-grown r t g = record {
-  size = cond (eqb g group_n) r.size t.size;
-  tuples = Tallies.more (tuple_group g) t.tuples;
-  roots = Tallies.more (eqb g group_l) t.roots;
-  lines = Tallies.more (eqb g group_q) t.lines;
-  last = g;
-  turn = cond (eqb g group_q) (t.turn & eqb r.own t.lines) t.turn;
-}
+-- the size, the last group and the turn of a tally with a row more
+pub counted_size : (r : Form.Row) (t : Tally) → (counted_of r t).size ≡ cond (eqb (row_data r).group group_n) (row_data r).size t.size
+unfolding row_data size_data pair_data box_data tuple_data root_data process_data bound_data row_line
+counted_size (N x) t = refl
+counted_size (R x) t = refl
+counted_size (D x) t = refl
+counted_size (T x) t = refl
+counted_size (L x) t = refl
+counted_size (Q x) t = refl
+counted_size (B x) t = refl
+counted_size (A x) t = refl
+counted_size (E x) t = refl
 
-pub at_group : (P : Tally → Type 0) (row : RowData) (t : Tally) (g : ℕ) → row.group ≡ g → P (grown row t g) → P (counted_of row t)
-at_group P row t g e p = subst (λ (g : ℕ). P (grown row t g)) (sym e) p
+pub counted_last : (r : Form.Row) (t : Tally) → last_number (counted_of r t).last ≡ (row_data r).group
+unfolding row_data size_data pair_data box_data tuple_data root_data process_data bound_data row_line
+counted_last (N x) t = refl
+counted_last (R x) t = refl
+counted_last (D x) t = refl
+counted_last (T x) t = refl
+counted_last (L x) t = refl
+counted_last (Q x) t = refl
+counted_last (B x) t = refl
+counted_last (A x) t = refl
+counted_last (E x) t = refl
+
+pub counted_turn : (above : List Row) (r : Form.Row) (t : Tally) → same (numbers_of above) (below t.lines) ≡ t.turn → same (numbers_of (above ++ (row_data r ∷ []))) (below (counted_of r t).lines) ≡ (counted_of r t).turn
+unfolding row_data size_data pair_data box_data tuple_data root_data process_data bound_data row_line
+counted_turn above (N x) t e = turn_other above (size_data x) t.lines refl ∙ e
+counted_turn above (R x) t e = turn_other above (pair_data group_r x) t.lines refl ∙ e
+counted_turn above (D x) t e = turn_other above (box_data x) t.lines refl ∙ e
+counted_turn above (T x) t e = turn_other above (tuple_data group_t x) t.lines refl ∙ e
+counted_turn above (L x) t e = turn_other above (root_data x) t.lines refl ∙ e
+counted_turn above (Q x) t e = turn_own above (process_data x) t.lines refl ∙ ap (λ (b : Bool). b & eqb x.number t.lines) e
+counted_turn above (B x) t e = turn_other above (bound_data x) t.lines refl ∙ e
+counted_turn above (A x) t e = turn_other above (tuple_data group_a x) t.lines refl ∙ e
+counted_turn above (E x) t e = turn_other above (pair_data group_e x) t.lines refl ∙ e
+
+-- whether a row stands above, by the last group
+pub no_last : (o : Option Group) (b : Bool) → is_some o ≡ not b → b ≡ eqb (last_number o) 0
+no_last None b h = not_no b (sym h)
+no_last (Some Groups.N) b h = not_yes b (sym h)
+no_last (Some Groups.R) b h = not_yes b (sym h)
+no_last (Some Groups.D) b h = not_yes b (sym h)
+no_last (Some Groups.T) b h = not_yes b (sym h)
+no_last (Some Groups.L) b h = not_yes b (sym h)
+no_last (Some Groups.Q) b h = not_yes b (sym h)
+no_last (Some Groups.B) b h = not_yes b (sym h)
+no_last (Some Groups.A) b h = not_yes b (sym h)
+no_last (Some Groups.E) b h = not_yes b (sym h)

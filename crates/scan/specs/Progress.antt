@@ -1,23 +1,23 @@
 -- How far a text is read.
 -- Assumes nothing.
 use Rattle.std.specs.Prelude.{◌≡◌, List, ℕ, length, drop, Result, Ok, Err}
-use Rattle.std.proofs.Math.Option.{Option}
+use Rattle.std.proofs.Math.Option.{Option, some}
 use Rattle.klaim.specs.Rows.{Row, split, newline, rows_from}
 use Rattle.klaim.specs.Reader.{refused, gives, bad, good, Text, judge, scan, read_rows}
 use Rattle.klaim.specs.Refusals.{number_of}
 use Rattle.klaim.specs.declared.Reason.{Reason}
 use Rattle.klaim.specs.declared.Refusal.{Refusal}
-use Rattle.forms.specs.declared.RowData.{RowData}
-use Rattle.forms.specs.Forms.{row_view, row_data}
+use Rattle.forms.specs.declared.rows.Row as Form
+use Rattle.forms.specs.Forms.{row_data}
 
 -- the rows that begin at byte `at` or behind it
 abbrev pub rows_left : List ℕ → ℕ → List (Option Row)
 rows_left bytes at = rows_from (split newline (drop at bytes))
 
 -- a row below those above is let through, and then this holds; or it is refused
-abbrev pub Taken : Text → List Row → RowData → Result (Unit {0}) Reason → Type 0 → Type 0
-Taken t above row (Ok x) then = (judge t above (row_view row) ≡ good (row_data row)) × then
-Taken t above row (Err why) then = judge t above (row_view row) ≡ bad (number_of why)
+abbrev pub Taken : Text → List Row → Form.Row → Result (Unit {0}) Reason → Type 0 → Type 0
+Taken t above row (Ok x) then = (judge t above (some (row_data row)) ≡ good (row_data row)) × then
+Taken t above row (Err why) then = judge t above (some (row_data row)) ≡ bad (number_of why)
 
 -- a text is read up to byte `at`: the rows above have the property P, and none of them is refused
 pub record Progress (t : Text) (P : List Row → Type 0) (bytes : List ℕ) (at count : ℕ) : Type 0 where

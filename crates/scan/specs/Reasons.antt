@@ -1,15 +1,13 @@
 -- Why a row is refused, if it is.
 -- Assumes nothing.
-use Rattle.std.specs.Prelude.{Bool, not, cond, ℕ, eqb, Result, Ok, Err}
+use Rattle.std.specs.Prelude.{Bool, not, cond, ℕ, Result, Ok, Err}
 use Rattle.sets.specs.Lists.{either}
 use Rattle.klaim.specs.Process.{template, clash}
 use Rattle.klaim.specs.Rows.{Row}
 use Rattle.klaim.specs.Reader.{in_limits, absent, Judged, bad, good}
 use Rattle.klaim.specs.Refusals.{number_of}
 use Rattle.klaim.specs.declared.Reason.{Reason}
-use Rattle.klaim.specs.declared.Reason.TheVariants.{Form, Limit, Place, Site, Clash}
-use Rattle.forms.specs.declared.RowData.{RowData}
-use Rattle.forms.specs.Forms.{row_data}
+use Rattle.klaim.specs.declared.Reason.TheVariants.{Limit, Place, Site, Clash}
 
 -- let through, or refused
 abbrev pub Judging : Type 0
@@ -19,13 +17,9 @@ Judging = Result (Unit {0}) Reason
 abbrev pub limited_of : Bool → Bool → Bool → Judging
 limited_of low full placed = cond (either (not low) full) (Err Limit) (cond placed (Ok tt) (Err Place))
 
--- 1, 2, and of 3 all but repeats
-abbrev pub early_of : RowData → Bool → Bool → Judging
-early_of r full placed = cond (eqb r.group 0) (Err Form) (limited_of (in_limits (row_data r)) full placed)
-
--- 4
-abbrev pub sited_of : Bool → Judging
-sited_of low = cond low (Ok tt) (Err Site)
+-- the same of a row
+abbrev pub early_of : Row → Bool → Bool → Judging
+early_of r full placed = limited_of (in_limits r) full placed
 
 -- 4 and 7
 abbrev pub late_of : ℕ → Row → Judging

@@ -1,26 +1,30 @@
 -- The tally of the rows above, with a row more.
 -- Assumes nothing.
-use Rattle.std.specs.Prelude.{Bool, true, cond, ℕ, ◌+◌, eqb}
+use Rattle.std.specs.Prelude.{true, ℕ, ◌+◌, eqb, Option, None, Some}
 use Rattle.sets.specs.Lists.{◌&◌}
-use Rattle.klaim.specs.Rows.{group_n, group_l, group_q}
-use Rattle.forms.specs.declared.RowData.{RowData}
-use Rattle.forms.specs.Forms.{tuple_group}
+use Rattle.forms.specs.declared.rows.Group.{Group}
+use Rattle.forms.specs.declared.rows.Group.TheVariants as Groups
+use Rattle.forms.specs.declared.rows.Row.{Row}
+use Rattle.forms.specs.declared.rows.Row.TheVariants.{N, R, D, T, L, Q, B, A, E}
+use Rattle.forms.specs.Forms.{group_number}
 use Rattle.scan.specs.declared.Tally.{Tally}
 
--- one more, if the row is of the group
-abbrev pub more : Bool → ℕ → ℕ
-more b k = cond b (k + 1) k
+-- the number of the last group, 0 where no row stands above
+abbrev pub last_number : Option Group → ℕ
+last_number None = 0
+last_number (Some g) = group_number g
 
-abbrev pub counted_of : RowData → Tally → Tally
-counted_of r t = record {
-  size = cond (eqb r.group group_n) r.size t.size;
-  tuples = more (tuple_group r.group) t.tuples;
-  roots = more (eqb r.group group_l) t.roots;
-  lines = more (eqb r.group group_q) t.lines;
-  last = r.group;
-  turn = cond (eqb r.group group_q) (t.turn & eqb r.own t.lines) t.turn;
-}
+abbrev pub counted_of : Row → Tally → Tally
+counted_of (N n) t = record t { size = n; last = Some Groups.N }
+counted_of (R p) t = record t { last = Some Groups.R }
+counted_of (D b) t = record t { last = Some Groups.D }
+counted_of (T x) t = record t { tuples = t.tuples + 1; last = Some Groups.T }
+counted_of (L r) t = record t { roots = t.roots + 1; last = Some Groups.L }
+counted_of (Q p) t = record t { lines = t.lines + 1; last = Some Groups.Q; turn = t.turn & eqb p.number t.lines }
+counted_of (B b) t = record t { last = Some Groups.B }
+counted_of (A x) t = record t { tuples = t.tuples + 1; last = Some Groups.A }
+counted_of (E p) t = record t { last = Some Groups.E }
 
 -- the tally of no rows, n given
 abbrev pub start_of : ℕ → Tally
-start_of n = record { size = n; tuples = 0; roots = 0; lines = 0; last = 0; turn = true }
+start_of n = record { size = n; tuples = 0; roots = 0; lines = 0; last = None; turn = true }

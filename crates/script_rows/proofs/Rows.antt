@@ -1,64 +1,18 @@
 -- Laws of the search for a row: where its end is, what one turn gives, and what the turns give together.
 -- Assumes nothing.
-use mathlib.Core.Path.{◌≡◌, refl, sym, ap, ◌∙◌, subst}
-use mathlib.Core.Bool.{Bool, true, false}
+use mathlib.Core.Path.{◌≡◌, sym, ap, ◌∙◌}
 use mathlib.Core.List.{List}
-use Prim.Native.Nat.{ℕ, zero, suc, ◌+◌, ◌-◌, ◌<◌, ◌≤◌}
+use Prim.Native.Nat.{ℕ, ◌+◌, ◌-◌, ◌<◌, ◌≤◌}
 use native.Mathlib.Omega.{arith}
-use native.Mathlib.Decide.{dec_lt, ℕ_discrete}
+use native.Mathlib.Decide.{dec_lt}
 use lib.ListN.{length, get_or, take}
 use lib.Seq.{get_or-take, length-take-le}
-use borrow.Rule.Slice.PartMut.{put_mid, take_put}
 use Rattle.klaim.specs.Rows.{newline}
 use Rattle.text.specs.Pieces.{end_of}
 use Rattle.text.proofs.Pieces.{end_none, end_hit}
+use Rattle.script_rows.specs.declared.Find.TheVariants.{Row, Long}
 use Rattle.script_rows.specs.declared.Window.{Window}
-use Rattle.script_rows.specs.Window.{input_ended, buffer_full, passed_over, read_failed, more_to_come, Within, Kept, Unended, Found, LongRow, Seeks, Turned, Roomy, Given, Read}
-
--- bytes before those that were read
-pub before_read : (n k : ℕ) (old read : List ℕ) → n ≤ length old → (i : ℕ) → i < n → get_or (put_mid n k old read) i 0 ≡ get_or old i 0
-before_read n k old read l i h =
-    sym (get_or-take n (put_mid n k old read) i 0 h) ∙ ap (λ (s : List ℕ). get_or s i 0) (take_put n k old read l) ∙ get_or-take n old i 0 h
-
--- a read that gave some bytes
-pub given_some : (last w : Window) (n : ℕ) → (n ≡ 0 → ⊥) → (w.found ≡ 5) × (w.from ≡ last.from) × (w.row ≡ last.row) × (w.next ≡ last.next) × (w.to ≡ last.to + n) × (w.more ≡ last.more) → Given last false n w
-given_some last w zero some e = absurd (some refl)
-given_some last w (suc n) some e = e
-
--- what a read gave, which leaves the length and the bytes before it as they were
-module _ {last w : Window} {old new : List ℕ} (in_order : Within last old) (long : length new ≡ length old) (same : (i : ℕ) → i < last.to → get_or new i 0 ≡ get_or old i 0) where
-  -- nothing, at the end of the input or as it failed
-  read_none : (k : ℕ) → w.found ≡ k → 0 < k → k < more_to_come → (k ≡ buffer_full → ⊥) → w.from ≡ last.from → w.to ≡ last.to → Within w new → (w.found ≡ input_ended → w.row ≡ w.to) → ((w.found ≡ input_ended → ⊥) → w.more ≡ last.more) → Read last old w new
-  read_none k found some less other from to within end coming = record {
-    within = within;
-    long = long;
-    same = same;
-    from = from;
-    no_row = λ q. omega arith;
-    more = λ q. absurd (omega arith);
-    stop = λ q. to;
-    end = end;
-    full = λ q. absurd (other (sym found ∙ q));
-    coming = coming;
-  }
-
-  pub read_given : (failed : Bool) (n : ℕ) → last.to + n ≤ length new → Given last failed n w → Read last old w new
-  read_given true n fits (found, from, row, next, to, coming) =
-      read_none read_failed found (omega arith) (omega arith) (λ q. omega arith) from to (omega arith, omega arith, omega arith, omega arith) (λ q. absurd (omega arith)) (λ q. coming)
-  read_given false zero fits (found, from, row, next, to) =
-      read_none input_ended found (omega arith) (omega arith) (λ q. omega arith) from to (omega arith, omega arith, omega arith, omega arith) (λ q. omega arith) (λ q. absurd (q found))
-  read_given false (suc n) fits (found, from, row, next, to, coming) = record {
-    within = (omega arith, omega arith, omega arith, omega arith);
-    long = long;
-    same = same;
-    from = from;
-    no_row = λ q. omega arith;
-    more = λ q. (row, next, omega arith);
-    stop = λ q. absurd (q found);
-    end = λ q. absurd (omega arith);
-    full = λ q. absurd (omega arith);
-    coming = λ q. coming;
-  }
+use Rattle.script_rows.specs.Window.{HasFailed, Kept, Unended, LongRow, Seeks, Turned, Roomy, Read}
 
 -- the end of a row looked for in the first bytes of a buffer
 module _ (buf : List ℕ) (to at : ℕ) (h : to ≤ length buf) where
@@ -80,13 +34,13 @@ unended_on buf a b e f g i l m = go (dec_lt i b)
 
 -- the end of the row stands in what is there
 pub row_here : {last w : Window} {buf : List ℕ} (e : ℕ) → Seeks last buf → e ≡ end_of newline (take last.to buf) last.next → e < last.to → last.next ≤ e →
-    (w.found ≡ 0) × (w.from ≡ last.from) × (w.row ≡ last.row) × (w.next ≡ e + 1) × (w.to ≡ last.to) × (w.more ≡ last.more) → Turned last buf w buf
+    (w.found ≡ Row) × (w.from ≡ last.from) × (w.row ≡ last.row) × (w.next ≡ e + 1) × (w.to ≡ last.to) × (w.more ≡ last.more) → Turned last buf w buf
 row_here {last} {w} {buf} e S q h low (found, from, row, next, to, coming) =
     let in_order = S.within in
     let place : w.next - 1 ≡ e = omega arith in
     let unended = unended_on buf last.row last.next e S.unended (looked buf last.to last.next in_order.3 e q (omega arith)) in
     record {
-      more = λ m. absurd (omega arith);
+      more = λ m. absurd (cc);
       found = λ m. record {
         within = (omega arith, omega arith, omega arith, omega arith);
         kept = λ i l. ap (λ (k : ℕ). get_or buf (k + i) 0) from;
@@ -100,8 +54,8 @@ row_here {last} {w} {buf} e S q h low (found, from, row, next, to, coming) =
           },
         );
         none = λ no. absurd (no found);
-        end = λ p. absurd (omega arith);
-        full = λ p. absurd (omega arith);
+        end = λ p. absurd (cc);
+        full = λ p. absurd (cc);
         goes_on = λ p. coming;
       };
     }
@@ -112,25 +66,6 @@ looked_all {last} {buf} e S q l m =
     let all : e ≡ last.to = omega arith in
     let rest = looked buf last.to last.next S.within.3 e q l in
     unended_on buf last.row last.next last.to S.unended (λ i a b. rest i a (omega arith))
-
--- the input has ended, all that is there having been looked at
-pub input_ended_lem : {last w : Window} {buf : List ℕ} → Seeks last buf → last.next ≡ last.to →
-    (w.found ≡ 1) × (w.from ≡ last.from) × (w.row ≡ last.to) × (w.next ≡ last.to) × (w.to ≡ last.to) → Turned last buf w buf
-input_ended_lem {last} {w} {buf} S all (found, from, row, next, to) =
-    let in_order = S.within in
-    record {
-      more = λ m. absurd (omega arith);
-      found = λ m. record {
-        within = (omega arith, omega arith, omega arith, omega arith);
-        kept = λ i l. ap (λ (k : ℕ). get_or buf (k + i) 0) from;
-        all = omega arith;
-        row = λ p. absurd (omega arith);
-        none = λ no i a b. S.unended i (omega arith) (omega arith);
-        end = λ p. omega arith;
-        full = λ p. absurd (omega arith);
-        goes_on = λ p. absurd (p found);
-      };
-    }
 
 -- bytes that were kept twice
 pub kept_on : (a b : ℕ) (old : List ℕ) (c d : ℕ) (mid : List ℕ) (e : ℕ) (new : List ℕ) → b + c ≤ d + a → Kept a b old c mid → Kept c d mid e new → Kept a b old e new
@@ -163,7 +98,7 @@ read_on {last} {r} {w} {old} {mid} {new} S all R D =
             omega (arith, more),
             omega (arith, more),
             kept,
-            D.coming (λ p. omega arith) ∙ R.coming,
+            D.coming (λ p. cc) ∙ R.coming,
           );
       found = λ m. record {
         within = within;
@@ -177,31 +112,6 @@ read_on {last} {r} {w} {old} {mid} {new} S all R D =
       };
     }
 
--- the turns before, and the last one
-pub found_on : {a n b : ℕ} {o : Bool} (last : Window) {w : Window} {old mid new : List ℕ} → a ≤ n → Within last mid → last.row + a ≡ n + last.from → b + last.from ≤ last.to + a → Kept a b old last.from mid → last.more ≡ o →
-    Found last.from last.row last.to last.more mid w new → Found a n b o old w new
-found_on {a} {n} {b} {o} last {w} {old} {mid} {new} l in_order row to kept coming F =
-    record {
-      within = F.within;
-      kept = kept_on a b old last.from last.to mid w.from new to kept F.kept;
-      all = omega (arith, F.all);
-      row = λ p. (omega (arith, (F.row p).0), (F.row p).1);
-      none = λ no i x. F.none no i (omega arith);
-      end = F.end;
-      full = F.full;
-      goes_on = λ p. F.goes_on p ∙ coming;
-    }
-
--- the same of other names for the places
-pub found_at : {a n b x y z : ℕ} {o v : Bool} {old : List ℕ} {w : Window} {buf : List ℕ} → x ≡ a → y ≡ n → z ≡ b → v ≡ o → Found x y z v old w buf → Found a n b o old w buf
-found_at {a} {n} {b} {x} {y} {z} {o} {v} {old} {w} {buf} p q r s F =
-    subst (λ (k : Bool). Found a n b k old w buf) s
-    (subst (λ (k : ℕ). Found a n k v old w buf) r (subst (λ (k : ℕ). Found a k z v old w buf) q (subst (λ (k : ℕ). Found k y z v old w buf) p F)))
-
 -- a row that was passed over is long, or a read failed in it
-pub long_or_failed : {w r : Window} → LongRow w r → (r.found ≡ passed_over → ⊥) → (r.found ≡ read_failed → ⊥) → ⊥
-long_or_failed {w} {r} L long failed = go (ℕ_discrete w.found read_failed)
-  where
-    go : Dec (w.found ≡ read_failed) → ⊥
-    go (yes p) = failed (L.failed p)
-    go (no p) = long (L.long p)
+pub long_or_failed : {w r : Window} → LongRow w r → (r.found ≡ Long → ⊥) → ¬ HasFailed r → ⊥
+long_or_failed {w} {r} L long failed = long (L.long (λ (why, e). failed (why, L.failed why e)))

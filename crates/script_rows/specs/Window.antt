@@ -1,34 +1,16 @@
 -- What of an input is in a buffer, and what was found there of a row.
 -- Assumes nothing.
-use Rattle.std.specs.Prelude.{◌≡◌, Bool, true, false, List, ℕ, zero, suc, ◌+◌, ◌-◌, ◌<◌, ◌≤◌, eqb, length, get_or}
+use Rattle.std.specs.Prelude.{◌≡◌, Bool, true, List, ℕ, zero, suc, ◌+◌, ◌-◌, ◌<◌, ◌≤◌, Result, Ok, Err, eqb, length, get_or}
+use Rattle.std.specs.declared.io.Error.{Error}
 use Prim.Native.Char.{code}
 use Rattle.sets.specs.Lists.{◌&◌}
 use Rattle.klaim.specs.Rows.{newline}
+use Rattle.script_rows.specs.declared.Find.TheVariants.{Row, End, Full, Long, Failed, More}
 use Rattle.script_rows.specs.declared.Window.{Window}
 
--- what may be found of a row, as a window has it: the row is there
-abbrev pub row_there : ℕ
-row_there = 0
-
--- the input ended before it did
-abbrev pub input_ended : ℕ
-input_ended = 1
-
--- what is kept fills the buffer
-abbrev pub buffer_full : ℕ
-buffer_full = 2
-
--- it was passed over
-abbrev pub passed_over : ℕ
-passed_over = 3
-
 -- a read failed
-abbrev pub read_failed : ℕ
-read_failed = 4
-
--- it is not there yet, and more may come
-abbrev pub more_to_come : ℕ
-more_to_come = 5
+abbrev pub HasFailed : Window → Type 0
+HasFailed w = (why : Error) × (w.found ≡ Failed why)
 
 -- the places of a window lie within the buffer, in their order
 abbrev pub Within : Window → List ℕ → Type 0
@@ -54,21 +36,21 @@ pub record Found (from next to : ℕ) (coming : Bool) (old : List ℕ) (w : Wind
   pub within : Within w buf
   pub kept : Kept from to old w.from buf
   pub all : to + w.from ≤ w.to + from
-  pub row : w.found ≡ row_there → (w.row + from ≡ next + w.from) × IsRow w buf
-  pub none : (w.found ≡ row_there → ⊥) → Unended buf (next + w.from - from) w.to
-  pub end : w.found ≡ input_ended → w.row ≡ w.to
-  pub full : w.found ≡ buffer_full → (w.from ≡ 0) × (w.to ≡ length buf)
-  pub goes_on : (w.found ≡ input_ended → ⊥) → w.more ≡ coming
+  pub row : w.found ≡ Row → (w.row + from ≡ next + w.from) × IsRow w buf
+  pub none : (w.found ≡ Row → ⊥) → Unended buf (next + w.from - from) w.to
+  pub end : w.found ≡ End → w.row ≡ w.to
+  pub full : w.found ≡ Full → (w.from ≡ 0) × (w.to ≡ length buf)
+  pub goes_on : (w.found ≡ End → ⊥) → w.more ≡ coming
 
 -- the next row, kept alone, unless it was passed over or a read failed
 abbrev pub Alone : Window → List ℕ → Window → List ℕ → Type 0
-Alone last old w buf = Within w buf × ((w.found ≡ passed_over → ⊥) → (w.found ≡ read_failed → ⊥) → Found last.next last.next last.to last.more old w buf)
+Alone last old w buf = Within w buf × ((w.found ≡ Long → ⊥) → ¬ HasFailed w → Found last.next last.next last.to last.more old w buf)
 
 -- a row that was passed over to where w is: it is long, unless a read failed there
 pub record LongRow (w r : Window) : Type 0 where
   pub places : (r.from ≡ w.from) × (r.row ≡ w.row) × (r.next ≡ w.next) × (r.to ≡ w.to)
-  pub long : (w.found ≡ read_failed → ⊥) → r.found ≡ passed_over
-  pub failed : w.found ≡ read_failed → r.found ≡ read_failed
+  pub long : ¬ HasFailed w → r.found ≡ Long
+  pub failed : (why : Error) → w.found ≡ Failed why → r.found ≡ Failed why
 
 -- the row that was found is `.`
 unfoldable pub dot_row : Window → List ℕ → Bool
@@ -79,7 +61,7 @@ pub record Dotted (last : Window) (old : List ℕ) (w : Window) (buf : List ℕ)
   pub within : Within w buf
   pub kept : Kept last.from last.to old w.from buf
   pub all : last.to + w.from ≤ w.to + last.from
-  pub row : w.found ≡ row_there → IsRow w buf × (dot_row w buf ≡ true)
+  pub row : w.found ≡ Row → IsRow w buf × (dot_row w buf ≡ true)
 
 -- the search for the end of a row: none was found before `next`
 pub record Seeks (w : Window) (buf : List ℕ) : Type 0 where
@@ -88,8 +70,8 @@ pub record Seeks (w : Window) (buf : List ℕ) : Type 0 where
 
 -- one turn of it: there is more to look at, or something was found
 pub record Turned (last : Window) (old : List ℕ) (w : Window) (buf : List ℕ) : Type 0 where
-  pub more : w.found ≡ more_to_come → Seeks w buf × (w.row + last.from ≡ last.row + w.from) × (last.to + w.from < w.to + last.from) × Kept last.from last.to old w.from buf × (w.more ≡ last.more)
-  pub found : (w.found ≡ more_to_come → ⊥) → Found last.from last.row last.to last.more old w buf
+  pub more : w.found ≡ More → Seeks w buf × (w.row + last.from ≡ last.row + w.from) × (last.to + w.from < w.to + last.from) × Kept last.from last.to old w.from buf × (w.more ≡ last.more)
+  pub found : (w.found ≡ More → ⊥) → Found last.from last.row last.to last.more old w buf
 
 -- the same window with room behind it, unless what is kept fills the buffer
 pub record Roomy (last : Window) (old : List ℕ) (w : Window) (buf : List ℕ) : Type 0 where
@@ -102,10 +84,10 @@ pub record Roomy (last : Window) (old : List ℕ) (w : Window) (buf : List ℕ) 
   pub coming : w.more ≡ last.more
 
 -- what a read of n bytes gave, or one that failed: a failure is not the end of the input
-abbrev pub Given : Window → Bool → ℕ → Window → Type 0
-Given last true n w = (w.found ≡ read_failed) × (w.from ≡ last.from) × (w.row ≡ last.row) × (w.next ≡ last.next) × (w.to ≡ last.to) × (w.more ≡ last.more)
-Given last false zero w = (w.found ≡ input_ended) × (w.from ≡ last.from) × (w.row ≡ last.to) × (w.next ≡ last.to) × (w.to ≡ last.to)
-Given last false (suc n) w = (w.found ≡ more_to_come) × (w.from ≡ last.from) × (w.row ≡ last.row) × (w.next ≡ last.next) × (w.to ≡ last.to + suc n) × (w.more ≡ last.more)
+abbrev pub Given : Window → Result ℕ Error → Window → Type 0
+Given last (Ok zero) w = (w.found ≡ End) × (w.from ≡ last.from) × (w.row ≡ last.to) × (w.next ≡ last.to) × (w.to ≡ last.to)
+Given last (Ok (suc n)) w = (w.found ≡ More) × (w.from ≡ last.from) × (w.row ≡ last.row) × (w.next ≡ last.next) × (w.to ≡ last.to + suc n) × (w.more ≡ last.more)
+Given last (Err why) w = (w.found ≡ Failed why) × (w.from ≡ last.from) × (w.row ≡ last.row) × (w.next ≡ last.next) × (w.to ≡ last.to) × (w.more ≡ last.more)
 
 -- what a read behind what is there gave
 pub record Read (last : Window) (old : List ℕ) (w : Window) (buf : List ℕ) : Type 0 where
@@ -113,9 +95,9 @@ pub record Read (last : Window) (old : List ℕ) (w : Window) (buf : List ℕ) :
   pub long : length buf ≡ length old
   pub same : (i : ℕ) → i < last.to → get_or buf i 0 ≡ get_or old i 0
   pub from : w.from ≡ last.from
-  pub no_row : w.found ≡ row_there → ⊥
-  pub more : w.found ≡ more_to_come → (w.row ≡ last.row) × (w.next ≡ last.next) × (last.to < w.to)
-  pub stop : (w.found ≡ more_to_come → ⊥) → w.to ≡ last.to
-  pub end : w.found ≡ input_ended → w.row ≡ w.to
-  pub full : w.found ≡ buffer_full → w.to ≡ length buf
-  pub coming : (w.found ≡ input_ended → ⊥) → w.more ≡ last.more
+  pub no_row : w.found ≡ Row → ⊥
+  pub more : w.found ≡ More → (w.row ≡ last.row) × (w.next ≡ last.next) × (last.to < w.to)
+  pub stop : (w.found ≡ More → ⊥) → w.to ≡ last.to
+  pub end : w.found ≡ End → w.row ≡ w.to
+  pub full : w.found ≡ Full → w.to ≡ length buf
+  pub coming : (w.found ≡ End → ⊥) → w.more ≡ last.more

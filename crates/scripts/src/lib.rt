@@ -1,20 +1,22 @@
 //! An engine script, run as it comes: net, estimate and commands in, one row out for each command as soon as it is there, and
-//! the state at the end. A function that prints answers false where that failed.
+//! the state at the end.
 #![tactic(auto)]
 
-ghost use Rattle.std.specs.Prelude.{◌≡◌, ◌≤◌, length};
+ghost use Rattle.std.specs.Prelude.{◌≡◌, false, ◌≤◌, length};
+ghost use Rattle.std.specs.declared.io.Error.{Error};
 ghost use Rattle.script_rows.specs.Window.{Within};
-ghost use Rattle.commands.specs.Asked.{unread};
 ghost use Rattle.state.specs.Fits.{Fits};
 ghost use Rattle.step.specs.Stepped.{Stepped};
+ghost use Rattle.brings.specs.Brought.{Brought};
 ghost use Rattle.withdraws.specs.Withdrawn.{Withdrawn};
 
-use commands::Command;
+use commands::{Choice, Command};
 use ready::{DoorAnswer, ReadyAnswer};
-use script_rows::Window;
+use script_rows::{Find, Window};
 use state::{State, Told};
+use std::io;
 use std::io::{Read, Write};
-use streams::Ending;
+use streams::Failure;
 
 // The most bytes of net, estimate and the rows `.` behind them.
 const HEAD_LIMIT: usize = 1048576;
@@ -23,7 +25,7 @@ const HEAD_LIMIT: usize = 1048576;
 pub const ROOM: usize = HEAD_LIMIT + 1;
 
 // The row for what a step did.
-fn say_step<W: Write>(output: &mut W, told: Told) -> bool {
+fn say_step<W: Write>(output: &mut W, told: Told) -> io::Result<()> {
     if told.number != 0 {
         return answers::say_refused(output, told.number, told.row);
     }
@@ -34,17 +36,17 @@ fn say_step<W: Write>(output: &mut W, told: Told) -> bool {
 }
 
 // The row for what a bring or a withdrawal did: its word, and the line of the arrival's root.
-fn say_root<W: Write>(output: &mut W, word: &[u8], told: Told) -> bool
+fn say_root<W: Write>(output: &mut W, word: &[u8], told: Told) -> io::Result<()>
     requires { length word.now ≤ 16 }
 {
     if told.number != 0 {
         return answers::say_refused(output, told.number, told.row);
     }
-    answers::say_count(output, word, told.site as usize)
+    answers::say_count(output, word, usize::from(told.site))
 }
 
 // The row for the door's answer.
-fn say_door<W: Write>(output: &mut W, answer: DoorAnswer) -> bool {
+fn say_door<W: Write>(output: &mut W, answer: DoorAnswer) -> io::Result<()> {
     match answer {
         DoorAnswer::Passes => answers::say(output, b"passes\n"),
         DoorAnswer::Closed => answers::say(output, b"closed\n"),
@@ -53,164 +55,144 @@ fn say_door<W: Write>(output: &mut W, answer: DoorAnswer) -> bool {
 }
 
 // The row for what is ready.
-fn say_ready<W: Write>(output: &mut W, answer: ReadyAnswer) -> bool {
+fn say_ready<W: Write>(output: &mut W, answer: ReadyAnswer) -> io::Result<()> {
     match answer {
-        ReadyAnswer::Place(k) => answers::say_count(output, b"ready,", k as usize),
+        ReadyAnswer::Place(k) => answers::say_count(output, b"ready,", usize::from(k)),
         ReadyAnswer::None => answers::say(output, b"ready,none\n"),
     }
 }
 
 // A step, guarded or bare.
-fn act(state: State, guarded: bool, c: Command) -> State
-    requires { Fits state }
-    ensures { Stepped guarded state c.a c.b c.c result }
+fn act(state: &mut State, guarded: bool, choice: Choice)
+    requires { Fits state.old }
+    ensures { Stepped guarded state.old choice.thread choice.tuple choice.root state.new }
 {
-    let nlines = state.nlines;
-    let narrivals = state.narrivals;
-    let run = state.run;
-    let mut next = state;
-    next.run = step::step(
+    state.run = step::step(
         &state.net.homes,
         &state.net.boxes,
         &state.estimate.binds,
         &state.lines,
-        nlines,
+        state.nlines,
         &state.arrivals,
-        narrivals,
+        state.narrivals,
         &state.sound,
-        &mut next.tuples,
-        run,
+        &mut state.tuples,
+        state.run,
         guarded,
-        c.a,
-        c.b,
-        c.c,
+        choice.thread,
+        choice.tuple,
+        choice.root,
     );
-    next
 }
 
-// The state behind a command; `rows` are those of a `bring`.
-fn obey(state: State, c: Command, rows: &[u8]) -> State
-    requires { Fits state }
-    ensures { Fits result }
+// An arrival's rows brought. The calls by value have functions of their own: where one is called, room for a state is cleared.
+fn bring(state: &mut State, rows: &[u8])
+    requires { Fits state.old }
+    ensures { Brought state.old rows.now state.new }
 {
-    if c.kind == commands::STEP {
-        return act(state, false, c);
-    }
-    if c.kind == commands::GUARDED {
-        return act(state, true, c);
-    }
-    if c.kind == commands::BRING {
-        return brings::bring(state, rows);
-    }
-    if c.kind == commands::WITHDRAW {
-        return withdraws::withdraw(state);
-    }
-    state
+    *state = brings::bring(*state, rows);
 }
 
-// The door, and its row.
-fn try_door<W: Write>(output: &mut W, state: State, c: Command) -> bool
-    requires { Fits state }
+// The newest arrival sent away.
+fn withdraw(state: &mut State)
+    requires { Fits state.old }
+    ensures { Withdrawn state.old state.new }
 {
-    let nlines = state.nlines;
-    let narrivals = state.narrivals;
-    let answer = ready::door(
+    *state = withdraws::withdraw(*state);
+}
+
+// Does what a command says to the state; `rows` are those of a `bring`.
+fn obey(state: &mut State, command: Command, rows: &[u8])
+    requires { Fits state.old }
+    ensures { Fits state.new }
+{
+    match command {
+        Command::Step(choice) => act(state, false, choice),
+        Command::Guarded(choice) => act(state, true, choice),
+        Command::Bring => bring(state, rows),
+        Command::Withdraw => withdraw(state),
+        Command::Door { .. } | Command::Ready | Command::Overlong | Command::Bad => {}
+    }
+}
+
+// The door's answer for the arrival whose root is this line, at a site under a sandbox.
+fn door(state: &State, root: usize, site: usize, sandbox: usize) -> DoorAnswer
+    requires { Fits state.now }
+{
+    ready::door(
         state.net.size,
         &state.net.boxes,
         &state.estimate.binds,
         &state.lines,
-        nlines,
+        state.nlines,
         &state.arrivals,
-        narrivals,
+        state.narrivals,
         &state.sound,
-        c.a,
-        c.b,
-        c.c,
-    );
-    say_door(output, answer)
-}
-
-// The row for a command that leaves the state as it is.
-fn consult<W: Write>(output: &mut W, state: State, c: Command) -> bool
-    requires { Fits state }
-{
-    if c.kind == commands::DOOR {
-        return try_door(output, state, c);
-    }
-    if c.kind == commands::READY {
-        return say_ready(output, ready::ready(state));
-    }
-    if c.kind == commands::OVERLONG {
-        return answers::say_refused(output, 2, 0);
-    }
-    answers::say(output, b"bad command\n")
+        root,
+        site,
+        sandbox,
+    )
 }
 
 // The row for a command, behind which the state is this one.
-fn respond<W: Write>(output: &mut W, state: State, c: Command) -> bool
-    requires { Fits state }
+fn respond<W: Write>(output: &mut W, state: &State, command: Command) -> io::Result<()>
+    requires { Fits state.now }
 {
-    let told = state.run.told;
-    if c.kind == commands::STEP || c.kind == commands::GUARDED {
-        return say_step(output, told);
+    match command {
+        Command::Step(_) | Command::Guarded(_) => say_step(output, state.run.told),
+        Command::Bring => say_root(output, b"brought,", state.run.told),
+        Command::Withdraw => say_root(output, b"withdrawn,", state.run.told),
+        Command::Door {
+            root,
+            site,
+            sandbox,
+        } => say_door(output, door(state, root, site, sandbox)),
+        Command::Ready => say_ready(output, ready::ready(*state)),
+        Command::Overlong => answers::say_refused(output, 2, 0),
+        Command::Bad => answers::say(output, b"bad command\n"),
     }
-    if c.kind == commands::BRING {
-        return say_root(output, b"brought,", told);
-    }
-    if c.kind == commands::WITHDRAW {
-        return say_root(output, b"withdrawn,", told);
-    }
-    consult(output, state, c)
 }
 
-// How a run ended whose last row was written or not.
-fn ended(written: bool) -> Ending {
-    if written {
-        return Ending::Done;
-    }
-    Ending::Unwritten
-}
-
-// The end of a run: the state is printed, unless the input could not be read.
-fn finish<W: Write>(output: &mut W, state: State, kind: u8) -> Ending
-    requires { Fits state }
-    ensures { kind ≡ unread → result ≡ Ending.Unread }
+// Obeys the next command and prints its row; false, where the input has ended.
+fn turn<R: Read, W: Write>(
+    input: &mut R,
+    output: &mut W,
+    buf: &mut [u8],
+    window: &mut Window,
+    state: &mut State,
+) -> Result<bool, Failure>
+    requires { Within window.old buf.old × Fits state.old }
+    ensures within { Within window.new buf.new × Fits state.new }
+    ensures failed { (why : Error) → window.new.found ≡ Find.Failed why → result ≡ Err (Failure.Unread why) }
+    ensures ended { result ≡ Ok false → window.new.found ≡ Find.End }
 {
-    if kind == commands::UNREAD {
-        return Ending::Unread;
-    }
-    ended(dump::say_state(output, state))
+    let asked = commands::next(input, buf, window).map_err(Failure::Unread)?;
+    let Some(command) = asked else {
+        return Ok(false);
+    };
+    obey(state, command, &buf[window.from..window.row]);
+    respond(output, state, command).map_err(Failure::Unwritten)?;
+    Ok(true)
 }
 
-// Runs the commands to the end of the input. They are counted down, from a number that no run uses up.
+// Runs the commands to the end of the input, and prints the state. They are counted, to a number that no run uses up.
 fn run_all<R: Read, W: Write>(
     input: &mut R,
     output: &mut W,
     buf: &mut [u8],
     first: Window,
-    state: State,
-) -> Ending
-    requires { Within first buf.old × Fits state }
+    begun: State,
+) -> Result<(), Failure>
+    requires { Within first buf.old × Fits begun }
 {
-    let mut last = state;
-    let mut w = first;
-    let mut left = u64::MAX;
-    while 0 < left {
-        let asked = commands::next(input, buf, w);
-        let c = asked.command;
-        w = asked.window;
-        if commands::NONE <= c.kind {
-            return finish(output, last, c.kind);
+    let mut window = first;
+    let mut state = begun;
+    for _ in 0..u64::MAX {
+        if !turn(input, output, buf, &mut window, &mut state)? {
+            break;
         }
-        let from = w.from;
-        let end = w.row;
-        last = obey(last, c, &buf[from..end]);
-        if !respond(output, last, c) {
-            return Ending::Unwritten;
-        }
-        left -= 1;
     }
-    finish(output, last, commands::NONE)
+    dump::say_state(output, &state).map_err(Failure::Unwritten)
 }
 
 // Runs the commands on the state that begins, unless it was refused.
@@ -220,16 +202,14 @@ fn carry_on<R: Read, W: Write>(
     buf: &mut [u8],
     head: Window,
     state: State,
-) -> Ending
+) -> Result<(), Failure>
     requires { Within head buf.old × (state.run.told.number ≡ 0 → Fits state) }
 {
     let told = state.run.told;
     if told.number != 0 {
-        return ended(answers::say_refused(output, told.number, told.row));
+        return answers::say_refused(output, told.number, told.row).map_err(Failure::Unwritten);
     }
-    if !answers::say(output, b"started\n") {
-        return Ending::Unwritten;
-    }
+    answers::say(output, b"started\n").map_err(Failure::Unwritten)?;
     run_all(input, output, buf, head, state)
 }
 
@@ -255,21 +235,18 @@ fn read_head<R: Read>(input: &mut R, buf: &mut [u8], first: Window) -> Window
     requires { Within first buf.old }
     ensures { Within result buf.new }
 {
-    let net = script_rows::dot(input, buf, first);
-    if net.found != script_rows::ROW {
-        return net;
+    let net = first.dot(input, buf);
+    match net.found {
+        Find::Row => net.dot(input, buf),
+        _ => net,
     }
-    script_rows::dot(input, buf, net)
 }
 
 // Whether a head is longer than the limit.
-fn is_long(w: Window) -> bool
-    requires { w.from ≤ w.next }
+fn is_long(head: Window) -> bool
+    requires { head.from ≤ head.next }
 {
-    if w.found == script_rows::FULL {
-        return true;
-    }
-    HEAD_LIMIT < w.next - w.from
+    matches!(head.found, Find::Full) || HEAD_LIMIT < head.next - head.from
 }
 
 // Runs a script: net rows, a row `.`, estimate rows, a row `.`, commands. A head longer than the limit is 2, row 0.
@@ -278,18 +255,16 @@ pub fn run<R: Read, W: Write>(
     output: &mut W,
     buf: &mut [u8],
     first: Window,
-) -> Ending
+) -> Result<(), Failure>
     requires { Within first buf.old }
 {
     let head = read_head(input, buf, first);
-    if head.found == script_rows::FAILED {
-        return Ending::Unread;
+    if let Find::Failed(why) = head.found {
+        return Err(Failure::Unread(why));
     }
     if is_long(head) {
-        return ended(answers::say_refused(output, 2, 0));
+        return answers::say_refused(output, 2, 0).map_err(Failure::Unwritten);
     }
-    let from = head.from;
-    let end = head.next;
-    let state = begin(&buf[from..end]);
+    let state = begin(&buf[head.from..head.next]);
     carry_on(input, output, buf, head, state)
 }

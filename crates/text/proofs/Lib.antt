@@ -1,7 +1,5 @@
-pub mod Tests
 pub mod Pieces
 pub mod Slices
 pub mod Rows
 pub mod Fields
 pub mod Sums
-pub mod Names

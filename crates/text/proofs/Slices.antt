@@ -135,6 +135,9 @@ module _ {s : List ℕ} {from : ℕ} (h : from ≤ length s) where
       go (inl z) = no_comma s end t z
       go (inr z) = z
 
+  pub slicing_long : {edges : List ℕ} {n end : ℕ} → Slicing s from edges n end → from + length (take (end - from) (drop from s)) ≡ end
+  slicing_long {edges} {n} {end} S = omega (arith, S.low, length-take-le (end - from) (drop from s) (omega (arith, S.high, length-drop from s)))
+
   pub slicing_done : {edges : List ℕ} {n end : ℕ} → Slicing s from edges n end → end ≡ end_of newline s from → Cut (take (end - from) (drop from s)) edges n
   slicing_done {edges} {n} {end} S e = subst (λ (m : ℕ). Cut (take (m - from) (drop from s)) edges n) (sym e) (cutting_done S.cutting (omega (arith, row_long s from h, e, S.low)))
 

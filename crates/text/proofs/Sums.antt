@@ -10,13 +10,13 @@ use native.Mathlib.Omega.{arith}
 use lib.Dec.{eqb, ltb}
 use lib.ListN.{length, get_or, drop, drop_of_length-le}
 use lib.Seq.{drop-cons}
-use borrow.Author.Tests.{lt-ltb, ltb-true, ltb-false, eqb-true}
-use Rattle.sets.specs.Lists.{◌&◌, either, any, among, empty, same as sameBytes}
+use borrow.Author.Tests.{ne_eqb, lt-ltb, ltb-true, ltb-false, eqb-true}
+use Rattle.sets.specs.Lists.{◌&◌, either, any, among, empty}
 use Rattle.sets.proofs.Lists.{among_in}
 use Rattle.sets.proofs.Bits.{right_double}
-use Rattle.klaim.specs.Rows.{given, otherwise, ◌>>=◌, text, right_of, rights_after, rights_field, box_rights_field}
+use Rattle.klaim.specs.Rows.{given, otherwise, ◌>>=◌, right_of, rights_after, rights_field}
 use Rattle.klaim.proofs.Options.{bind_none}
-use Rattle.text.specs.Fields.{rights_of, unsaid, box_rights_of, hit_at, bits}
+use Rattle.text.specs.Fields.{hit_at, bits}
 
 module _ {A B : Type 0} where
   bind_same : (o : Option A) (g k : A → Option B) → ((x : A) → g x ≡ k x) → (o >>= g) ≡ (o >>= k)
@@ -25,10 +25,10 @@ module _ {A B : Type 0} where
   bind_same (some x) g k h = h x
 
 -- one letter, behind the right `last`
-module _ (f : List ℕ) (i last r : ℕ) (h : i < length f) (q : rights_of r ≡ right_of (get_or f i 0)) where
+module _ (f : List ℕ) (i last r : ℕ) (h : i < length f) (q : some r ≡ right_of (get_or f i 0)) where
   rights_next : last < r → rights_after last (drop i f) ≡ (rights_after r (drop (i + 1) f) >>= λ rs. some (r + rs))
-  unfolding rights_after rights_of given ◌>>=◌
-  rights_next m = rw (add-one, drop-cons f i 0 h, ← q, lt-ltb 0 r (omega arith)) (bind_same (rights_after r (drop (suc i) f)) (λ rs. given (ltb last r) (some (r + rs))) (λ rs. some (r + rs)) (λ rs. rw (lt-ltb last r m)))
+  unfolding rights_after given ◌>>=◌
+  rights_next m = rw (add-one, drop-cons f i 0 h, ← q) (bind_same (rights_after r (drop (suc i) f)) (λ rs. given (ltb last r) (some (r + rs))) (λ rs. some (r + rs)) (λ rs. rw (lt-ltb last r m)))
 
 -- sums in front of what is read later
 add_zero_all : (o : Option ℕ) → o ≡ (o >>= λ n. some (0 + n))
@@ -54,7 +54,7 @@ unfolding among any either
 summing_none f = record { within = omega arith; many = omega arith; size = omega arith; bit = refl; value = add_zero_all (rights_after 0 f) }
 
 -- the next letter's right is r
-module _ {f : List ℕ} {sum last i : ℕ} (S : Summing f sum last i) (r : ℕ) (h : i < length f) (q : rights_of r ≡ right_of (get_or f i 0)) where
+module _ {f : List ℕ} {sum last i : ℕ} (S : Summing f sum last i) (r : ℕ) (h : i < length f) (q : some r ≡ right_of (get_or f i 0)) where
   summing_next : among bits r ≡ true → last < r → Summing f (sum + r) r (i + 1)
   summing_next t m = record {
     within = omega arith;
@@ -87,7 +87,7 @@ next_miss {f} {sum} {last} {i} S r t m e k z =
     })))
 
 -- the letter of the right r looked for behind `last`
-pub summing_step : {f : List ℕ} {sum last i : ℕ} → Summing f sum last i → (r letter : ℕ) → among bits r ≡ true → last < r → rights_of r ≡ right_of letter → Apart last r letter → (k : ℕ) → k ≡ hit_at letter f i → Summing f (sum + r * k) r (i + k)
+pub summing_step : {f : List ℕ} {sum last i : ℕ} → Summing f sum last i → (r letter : ℕ) → among bits r ≡ true → last < r → some r ≡ right_of letter → Apart last r letter → (k : ℕ) → k ≡ hit_at letter f i → Summing f (sum + r * k) r (i + k)
 unfolding hit_at ◌&◌ rights_after
 summing_step {f} {sum} {last} {i} S r letter t m q skip k h = go (ltb i (length f)) refl (eqb (get_or f i 0) letter) refl h
   where
@@ -170,43 +170,26 @@ summing_more {f} {sum} {i} S h = rw (S.value, drop-cons f i 0 (omega (arith, S.w
     go true = refl
     go false = refl
 
-pub rights_no : rights_of 0 ≡ none
-unfolding rights_of given
-rights_no = refl
-
--- the rights of a D row: `-`, no rights, rights as in other rows
-pub box_dash : (f : List ℕ) → sameBytes f (text "-") ≡ true → box_rights_of 0 ≡ box_rights_field f
-unfolding box_rights_of box_rights_field given otherwise
-box_dash f d = rw d
-
-module _ (f : List ℕ) (d : sameBytes f (text "-") ≡ false) (r : ℕ) (e : rights_of r ≡ rights_field f) where
-  pub box_none : r ≡ 0 → box_rights_of unsaid ≡ box_rights_field f
-  unfolding box_rights_of box_rights_field rights_of given otherwise
-  box_none z = rw (d, ← e, z)
-
-  pub box_some : (r ≡ 0 → ⊥) → r < unsaid → box_rights_of r ≡ box_rights_field f
-  unfolding box_rights_of box_rights_field rights_of given otherwise
-  box_some z l = rw (d, ← e, lt-ltb r unsaid l, lt-ltb 0 r (omega arith))
+pub rights_none : (f : List ℕ) → eqb (length f) 0 ≡ true → none ≡ rights_field f
+unfolding rights_field given empty
+rights_none [] h = refl
+rights_none (b ∷ f) h = absurd (false≢true (sym (ne_eqb (suc (length f)) 0 (λ e. omega arith)) ∙ h))
 
 all_read : {f : List ℕ} {sum last i : ℕ} → Summing f sum last i → length f ≤ i → rights_after 0 f ≡ some (sum + 0)
 unfolding rights_after ◌>>=◌
 all_read {f} S h = S.value ∙ rw (drop_of_length-le f h)
 
-pub summing_done : (f : List ℕ) {sum last i : ℕ} → Summing f sum last i → length f ≤ i → rights_of sum ≡ rights_field f
-unfolding rights_of rights_field rights_after empty given
-summing_done [] {sum} S h =
-    let e : some 0 ≡ some (sum + 0) = all_read S h in
-    let z : 0 ≡ sum + 0 = cc in
-    let y : sum ≡ 0 = omega arith in
-    rw y
-summing_done (b ∷ f) {sum} S h = rw (lt-ltb 0 sum (omega (arith, S.many)), all_read S h) (ap some (omega arith))
+pub summing_done : (f : List ℕ) → eqb (length f) 0 ≡ false → {sum last i : ℕ} → Summing f sum last i → length f ≤ i → some sum ≡ rights_field f
+unfolding rights_field rights_after empty given
+summing_done [] z {sum} S h = absurd (false≢true (sym z))
+summing_done (b ∷ f) z {sum} S h = rw (all_read S h) (ap some (omega arith))
 
 moved : {f : List ℕ} {last sum n i j : ℕ} → Summing f sum last i → sum ≡ n → i ≡ j → Summing f n last j
 moved {f} {last} {sum} {n} {i} {j} S p q = subst (λ (k : ℕ). Summing f n last k) q (subst (λ (k : ℕ). Summing f k last i) p S)
 
 -- each letter in turn
 pub all_hits : (f : List ℕ) (o i r e a : ℕ) → o ≡ hit_at 111 f 0 → i ≡ hit_at 105 f o → r ≡ hit_at 114 f (o + i) → e ≡ hit_at 101 f (o + i + r) → a ≡ hit_at 97 f (o + i + r + e) → Summing f (o + 2 * i + 4 * r + 8 * e + 16 * a) 16 (o + i + r + e + a)
-unfolding among any either rights_of right_of given otherwise
+unfolding among any either right_of given otherwise
 all_hits f o i r e a p1 p2 p3 p4 p5 =
     let S1 : Summing f o 1 o = moved (summing_step (summing_none f) 1 111 refl (omega arith) refl apart_o o p1) (omega arith) (omega arith) in
     let S2 : Summing f (o + 2 * i) 2 (o + i) = summing_step S1 2 105 refl (omega arith) refl apart_i i p2 in

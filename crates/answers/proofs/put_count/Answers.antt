@@ -1,6 +1,3 @@
-use mathlib.Core.Path.{ap}
-use Rattle.klaim.specs.Listing.{numeral}
-use Rattle.writer.proofs.Wrote.{wrote_as}
 use native.Mathlib.Omega.{arith}
 use Rattle.klaim.proofs.Numeral.{numeral_short}
 use Rattle.answers.proofs.put_count.Goals as goal
@@ -14,6 +11,3 @@ pub returns-clause-place : goal.returns-clause-place
 returns-clause-place c =
     let n = c.narrow in
     omega (arith, numeral_short 9 n.result (omega (arith, n.ensures.bound)), c.put_number.ensures)
-
-pub returns-clause-wrote : goal.returns-clause-wrote
-returns-clause-wrote c = wrote_as (ap numeral c.narrow.ensures.value) c.put_number.ensures

@@ -1,11 +1,16 @@
+use Rattle.std.proofs.Common.{subst}
+use Rattle.std.proofs.lemmas.Result.{on_ok_weaker}
 use Rattle.sets.specs.Lists.{◌⧺◌}
 use Rattle.klaim.specs.Rows.{text}
 use Rattle.klaim.specs.Listing.{row, tail}
-use Rattle.answers.specs.Printed.{performed_row}
-use Rattle.writer.proofs.Wrote.{wrote_then}
-use Rattle.answers.proofs.Printed.{printed}
+use Rattle.answers.specs.Made.{Adds}
+use Rattle.answers.specs.Printed.{shown, performed_row}
+use Rattle.answers.proofs.Printed.{adds_then, printed}
 use Rattle.answers.proofs.say_performed.Goals as goal
 
 pub returns : goal.returns
 unfolding performed_row row tail text ◌⧺◌
-returns g c = λ yes. printed _ _ (wrote_then c.put_text-a.ensures (wrote_then c.put_count-b.ensures.wrote (wrote_then c.put_text-c.ensures (wrote_then c.put_count-d.ensures.wrote (wrote_then c.put_byte-e.ensures (wrote_then c.put_rights-f.ensures.wrote c.put_byte-end.ensures)))))) (c.say_first.ensures yes)
+returns g c =
+    let site = subst (λ n. Adds c.text.new.self c.count.new.self (shown n)) c.from.ensures c.count.ensures.adds in
+    let target = subst (λ n. Adds c.text-2.new.self c.count-2.new.self (shown n)) c.from-2.ensures c.count-2.ensures.adds in
+    on_ok_weaker _ (printed (g.W.Write.contents c.args.output.now) (g.W.Write.contents c.say.new.output) c.new-row.ensures.empty (adds_then c.text.ensures (adds_then site (adds_then c.text-2.ensures (adds_then target (adds_then c.byte.ensures (adds_then c.rights.ensures.adds c.byte-2.ensures))))))) c.say.ensures

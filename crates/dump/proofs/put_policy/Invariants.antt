@@ -1,12 +1,5 @@
--- The place lies no further than what the turns so far have room for.
--- Assumes nothing.
-use mathlib.Core.Path.{◌≡◌}
-use Prim.Native.Nat.{◌+◌, ◌-◌, ◌*◌, ◌≤◌}
-use lib.ListN.{length}
+use Rattle.std.proofs.Common.{◌≡◌, ◌+◌, ◌*◌}
 use Rattle.dump.proofs.put_policy.Given as goal
 
-abbrev pub invariant-loop-i : goal.invariant-loop-i
-invariant-loop-i l = (length l.out ≡ length l.initial.out) × (l.i ≤ 32) × (l.next ≡ l.at + 2 * l.i)
-
-abbrev pub decreases-loop-i : goal.decreases-loop-i
-decreases-loop-i l = 32 - l.i
+abbrev pub invariant-loop-rights : goal.invariant-loop-rights
+invariant-loop-rights g l = l.row.end ≡ l.initial.row.end + 2 * l.rights-index

@@ -1,12 +1,5 @@
--- The place lies no further than what the turns so far have room for.
--- Assumes nothing.
-use mathlib.Core.Path.{◌≡◌}
-use Prim.Native.Nat.{◌+◌, ◌-◌, ◌*◌, ◌≤◌}
-use lib.ListN.{length}
+use Rattle.std.proofs.Common.{◌≤◌, ◌+◌, ◌*◌}
 use Rattle.dump.proofs.put_sites.Given as goal
 
-abbrev pub invariant-loop-i : goal.invariant-loop-i
-invariant-loop-i l = (length l.out ≡ length l.initial.out) × (l.n ≤ 5) × (l.i ≤ l.n) × (l.at ≤ l.next) × (l.next ≤ l.at + 12 * l.i)
-
-abbrev pub decreases-loop-i : goal.decreases-loop-i
-decreases-loop-i l = l.n - l.i
+abbrev pub invariant-loop-site : goal.invariant-loop-site
+invariant-loop-site g l = (l.initial.row.end ≤ l.row.end) × (l.row.end ≤ l.initial.row.end + 12 * l.site-index)

@@ -1,5 +1,5 @@
-use Rattle.entries.proofs.Lines.{tuple_is}
+use Rattle.entries.proofs.Lines.{tuple_read}
 use Rattle.entries.proofs.tuple_bytes.Goals as goal
 
 pub returns : goal.returns
-returns c = rw c.tuple_codes.ensures (tuple_is c.args.row c.requires.row_value c.requires.group_value c.requires.row_value_2)
+returns c = rw c.byte.ensures (tuple_read c.args.tuple.now _ _ _ _ _ c.codes.ensures.codes c.requires)

@@ -7,7 +7,7 @@ use Rattle.scan.proofs.read.Given as goal
 
 abbrev pub invariant-loop-at : goal.invariant-loop-at
 invariant-loop-at g l =
-    (l.row ≤ l.at) × ((t : Text) → g.R.Reader.holds t [] l.initial.reader → Progress t (λ rows. g.R.Reader.holds t rows l.reader) l.s l.at l.row)
+    (l.count ≤ l.at) × ((t : Text) → g.R.Reader.holds t [] l.initial.reader → Progress t (λ rows. g.R.Reader.holds t rows l.reader) l.s l.at l.count)
 
 abbrev pub decreases-loop-at : goal.decreases-loop-at
 decreases-loop-at g l = length l.s - l.at

@@ -2,4 +2,4 @@ use Rattle.state.proofs.Lent.{own_parts}
 use Rattle.scripts.proofs.act.Goals as goal
 
 pub returns : goal.returns
-returns c = c.step-next.ensures.stepped c.args.state c.requires (own_parts c.args.state)
+returns c = c.step-state.ensures.stepped c.args.state.now c.requires (own_parts c.args.state.now)

@@ -1,7 +1,8 @@
-use Rattle.stores.proofs.Stores.{pair_place_lem}
-use Rattle.stores.proofs.Shapes.{pair_row}
 use mathlib.Core.Path.{refl}
+use Rattle.klaim.specs.Reader.{pair_place}
+use Rattle.forms.specs.Forms.{pair_data}
 use Rattle.stores.proofs.pair_place.Goals as goal
 
-pub returns : goal.returns
-returns c = pair_place_lem (pair_row c.args.row c.requires.row_value c.requires.row_value_2 c.requires.group_value) _ _ _ c.number-s.ensures c.number-t.ensures refl
+pub returns-clause-place : goal.returns-clause-place
+unfolding pair_place pair_data
+returns-clause-place c = λ g. rw (c.from.ensures, c.from-2.ensures) refl

@@ -1,5 +1,5 @@
 -- One read more puts what it took behind what was there.
-use Rattle.std.proofs.Common.{rules, ◌≡◌, ℕ, ◌+◌, ◌-◌, ◌≤◌, List, ◌++◌, arith, length, take, drop, sym, ap, ◌∙◌, subst, le_refl, drop_at, length-take-le}
+use Rattle.std.proofs.Common.{rules, ◌≡◌, ℕ, ◌+◌, ◌-◌, ◌≤◌, List, ◌++◌, length, take, drop, sym, ap, ◌∙◌, subst, le_refl, drop_at, length-take-le}
 use Rattle.std.specs.declared.option.Option.{Option}
 use Rattle.std.proofs.lemmas.Slice.{take-put_mid_below}
 use Rattle.std.specs.Io.KnownBytes.{Consumes}
@@ -16,17 +16,6 @@ taken_more a b c buf new from n within fits front more =
     let behind : take n (drop from whole) ≡ take n new = ap (take n) (drop_at (take from buf) (new ++ post_of from room buf) from (length-take-le from buf within)) ∙ take-append-le n new (post_of from room buf) fits in
     subst (Consumes a c) (ap (λ l. l ++ take n new) (sym before) ∙ ap (λ l. take from whole ++ l) (sym behind) ∙ sym (take-add from n whole)) (Consumes-trans a b c _ _ front more)
 
-taken_no_more : (a b c : Option (List ℕ)) (buf new : List ℕ) (from n done : ℕ) → from ≤ length buf → n ≤ length new → n ≡ 0 → done ≡ from → Consumes a b (take from buf) → Consumes b c (take n new) → Consumes a c (take done (put_mid from (length buf - from) buf new))
-taken_no_more a b c buf new from n done within fits none end front more =
-    let same : from + n ≡ done = omega arith in
-    subst (λ k. Consumes a c (take k (put_mid from (length buf - from) buf new))) same (taken_more a b c buf new from n within fits front more)
-
-pub returns-then-got-clause-taken : goal.returns-then-got-clause-taken
-returns-then-got-clause-taken g c =
-    let got = c.read-got in
-    taken_no_more _ _ _ c.loop-done.buf got.new.buf c.loop-done.done got.result.count c.reading_of.result.count c.loop-done.invariant.1 got.ensures.within.0 (got.ensures.none c.if-got.true) c.reading_of.ensures.count c.loop-done.invariant.2 got.ensures.taken
-
 pub loop-done-preserved : goal.loop-done-preserved
 loop-done-preserved g c =
-    let got = c.read-got in
-    (search rules, search rules, taken_more _ _ _ c.loop-done.buf got.new.buf c.loop-done.done got.result.count c.loop-done.invariant.1 got.ensures.within.0 c.loop-done.invariant.2 got.ensures.taken)
+    (search rules, taken_more _ _ _ c.loop-done.buf c.read.new.buf c.loop-done.done c.in-Ok.count c.loop-done.invariant.0 c.in-Ok.ensures.within.0 c.loop-done.invariant.1 c.in-Ok.ensures.taken.0)

@@ -1,17 +1,12 @@
-use Rattle.klaim.specs.Rows.{digit}
-use Rattle.sets.specs.Lists.{◌&◌}
-use Rattle.text.specs.Fields.{value_of}
-use Rattle.text.proofs.Tests.{tests}
+use native.Mathlib.Omega.{arith}
+use Rattle.text.proofs.Fields.{digit_some, digit_low, digit_high}
 use Rattle.text.proofs.digit.Goals as goal
 
-pub returns-then-b-lt48 : goal.returns-then-b-lt48
-unfolding value_of digit ◌&◌
-returns-then-b-lt48 c = search tests
+pub returns-in-48-to-57-clause-value : goal.returns-in-48-to-57-clause-value
+returns-in-48-to-57-clause-value c = digit_some c.args.b (omega arith) (omega arith) c.from.ensures
 
-pub returns-then-b-gt57 : goal.returns-then-b-gt57
-unfolding value_of digit ◌&◌
-returns-then-b-gt57 c = search tests
+pub returns-in_default-clause-value : goal.returns-in_default-clause-value
+returns-in_default-clause-value c = digit_low c.args.b (omega arith)
 
-pub returns : goal.returns
-unfolding value_of digit ◌&◌
-returns c = search tests
+pub returns-in_default-2-clause-value : goal.returns-in_default-2-clause-value
+returns-in_default-2-clause-value c = digit_high c.args.b (omega arith)

@@ -11,13 +11,13 @@ invariant_of-self c = record { room = rw (c.count.ensures, c.put.ensures.tally_s
 
 pub returns : goal.returns
 returns c = λ t above H.
-    let row = c.args.row in
+    let row = c.args.row.now in
     let e = c.count.ensures ∙ ap (counted_of row) c.put.ensures.tally_same in (
       c.in_ok-admits.ensures.judged t above H,
       record {
         n = H.n;
         text = H.text;
         tables = recounted (c.put.ensures.tables above H.tables) e;
-        counts = subst (EstimateTally H.n (above ++ (row_data row ∷ []))) (sym e) (tally_more H.n above row c.args.self.now.tally c.requires H.counts c.in_ok-admits.ensures.passed);
+        counts = subst (EstimateTally H.n (above ++ (row_data row ∷ []))) (sym e) (tally_more H.n above c.args.self.now.tally H.counts row c.in_ok-admits.ensures.passed);
       },
     )

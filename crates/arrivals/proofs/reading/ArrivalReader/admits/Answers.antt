@@ -1,28 +1,44 @@
-use mathlib.Core.Path.{sym, ap, ◌∙◌}
+use mathlib.Core.Path.{sym, ap, ap₂, ◌∙◌}
 use mathlib.Core.Bool.{Bool}
+use Prim.Native.Nat.{ℕ}
 use lib.Dec.{eqb}
 use Rattle.std.proofs.lemmas.Result.{err_from_is_err_and}
-use Rattle.forms.specs.Forms.{row_data}
 use Rattle.klaim.specs.Rows.{group_q}
-use Rattle.scan.specs.Reasons.{Judging, early_of, judged_by}
-use Rattle.scan.proofs.Reasons.{if_ok}
-use Rattle.arrivals.proofs.Rows.{judged_early, judged_late, passed}
+use Rattle.klaim.specs.Reader.{repeated}
+use Rattle.forms.specs.Forms.{group_number, row_data}
+use Rattle.forms.proofs.Groups.{group_is}
+use Rattle.scan.specs.Reasons.{Judging, early_of, late_of, judging_of, judged_by}
+use Rattle.scan.proofs.Reasons.{early_passed, if_ok}
+use Rattle.arrivals.specs.Rows.{full_of}
+use Rattle.arrivals.proofs.Rows.{judged_is, not_repeated}
 use Rattle.arrivals.proofs.reading.ArrivalReader.admits.Goals as goal
 
 pub returns-in_err-early-clause-judged : goal.returns-in_err-early-clause-judged
 returns-in_err-early-clause-judged c = λ t above H.
+    let r = row_data c.args.row.now in
+    let y = c.args.self.now.tally in
+    let d = c.args.self.now.present in
+    let q = ap group_number c.group-group.ensures ∙ sym (group_is c.args.row.now) in
+    let e = sym (c.early.ensures ∙ ap₂ (early_of r) (c.is_full.ensures ∙ ap (λ (g : ℕ). full_of d g y) q) (c.is_own.ensures ∙ ap (λ (g : ℕ). eqb g group_q) q)) ∙ c.in_err-early.was in
     let p = err_from_is_err_and c.from_residual.result c.from_residual.ensures.1 in
-    let r = c.args.self.now in
-    let e = sym (c.early.ensures ∙ ap (λ (x : Bool). early_of c.args.row x (eqb c.args.row.group group_q)) c.is_full.ensures) ∙ c.in_err-early.was in
-    rw (p.1, p.2, H.text) (judged_early H.n r.present above r.lines c.args.row r.tally c.requires H.counts e)
+    rw (p.1, p.2, H.text) (judged_is H.n d above c.args.self.now.lines r y H.counts ∙ ap (λ (j : Judging). judged_by (judging_of j (repeated above r) (late_of y.size r)) r) e)
 
 pub returns-clause-judged : goal.returns-clause-judged
 returns-clause-judged c = λ t above H.
-    let r = c.args.self.now in
-    let e = sym (c.early.ensures ∙ ap (λ (x : Bool). early_of c.args.row x (eqb c.args.row.group group_q)) c.is_full.ensures) ∙ c.in_ok-early.was in
-    rw H.text (judged_late H.n r.present above r.lines c.args.row r.tally c.requires H.counts e ∙ ap (λ (j : Judging). judged_by j (row_data c.args.row)) (sym c.late.ensures))
+    let r = row_data c.args.row.now in
+    let y = c.args.self.now.tally in
+    let d = c.args.self.now.present in
+    let q = ap group_number c.group-group.ensures ∙ sym (group_is c.args.row.now) in
+    let e = sym (c.early.ensures ∙ ap₂ (early_of r) (c.is_full.ensures ∙ ap (λ (g : ℕ). full_of d g y) q) (c.is_own.ensures ∙ ap (λ (g : ℕ). eqb g group_q) q)) ∙ c.in_ok-early.was in
+    let s = not_repeated H.n d above c.args.self.now.lines r y H.counts (early_passed r e).2 in
+    rw H.text (judged_is H.n d above c.args.self.now.lines r y H.counts ∙ ap₂ (λ (j : Judging) (b : Bool). judged_by (judging_of j b (late_of y.size r)) r) e s ∙ ap (λ (j : Judging). judged_by j r) (sym c.late.ensures))
 
 pub returns-clause-passed : goal.returns-clause-passed
 returns-clause-passed c =
-    let e = sym (c.early.ensures ∙ ap (λ (x : Bool). early_of c.args.row x (eqb c.args.row.group group_q)) c.is_full.ensures) ∙ c.in_ok-early.was in
-    if_ok c.late.result (passed c.args.self.now.present c.args.row c.args.self.now.tally e)
+    let r = row_data c.args.row.now in
+    let y = c.args.self.now.tally in
+    let d = c.args.self.now.present in
+    let q = ap group_number c.group-group.ensures ∙ sym (group_is c.args.row.now) in
+    let e = sym (c.early.ensures ∙ ap₂ (early_of r) (c.is_full.ensures ∙ ap (λ (g : ℕ). full_of d g y) q) (c.is_own.ensures ∙ ap (λ (g : ℕ). eqb g group_q) q)) ∙ c.in_ok-early.was in
+    let E = early_passed r e in
+    if_ok c.late.result (record { low = E.0; room = E.1; placed = E.2 })

@@ -4,4 +4,4 @@ use Rattle.arrivals.proofs.reading.ArrivalReader.is_full.Goals as goal
 
 pub returns : goal.returns
 unfolding full_of
-returns c = and_both _ _
+returns c = rw c.is_own.ensures (and_both _ _)

@@ -4,4 +4,4 @@ use Rattle.estimates.proofs.reading.EstimateReader.is_full.Goals as goal
 
 pub returns : goal.returns
 unfolding full_of
-returns c = and_both _ _
+returns c = rw c.is_tuples.ensures (and_both _ _)

@@ -4,4 +4,4 @@ use Rattle.estimates.proofs.reading.EstimateReader.is_placed.Goals as goal
 
 pub returns : goal.returns
 unfolding placed_of
-returns c = and_both _ _
+returns c = rw (c.is_own.ensures, c.in_order.ensures) (and_both _ _)

@@ -1,16 +1,34 @@
-use mathlib.Core.Path.{sym, subst}
-use Prim.Native.Nat.{ℕ}
+use mathlib.Core.Path.{refl}
 use Rattle.sets.specs.Lists.{either}
-use Rattle.forms.specs.Forms.{tuple_group}
-use Rattle.repeats.specs.Kept.{KeysAre}
-use Rattle.estimates.proofs.Rows.{tuple_group_lem}
+use Rattle.forms.specs.Forms.{pair_group, tuple_group, row_data}
+use Rattle.klaim.specs.Rows.{group_a, group_e}
+use Rattle.judge.proofs.Limits.{bound_low, tuple_low, pair_low}
+use Rattle.estimates.proofs.Rows.{none_other}
 use Rattle.estimates.proofs.reading.EstimateReader.is_seen.Goals as goal
 
-pub tuple_seen-requires-clause-group_value : goal.tuple_seen-requires-clause-group_value
-unfolding tuple_group either
-tuple_seen-requires-clause-group_value c = rw (tuple_group_lem c.args.row c.args.self.now.tally c.requires.row_value c.requires.passed c.requires.fact c.if-row-eq-GROUP_B.false)
+pub bound_seen-requires : goal.bound_seen-requires
+unfolding row_data
+bound_seen-requires c = let l = bound_low _ (rw c.in-B.is at c.requires.low) in record { variable_low = l.0; site_low = l.1 }
 
-pub returns-else-row-eq-GROUP_B : goal.returns-else-row-eq-GROUP_B
-returns-else-row-eq-GROUP_B c = λ t above H.
-    let a = tuple_group_lem c.args.row c.args.self.now.tally c.requires.row_value c.requires.passed c.requires.fact c.if-row-eq-GROUP_B.false in
-    c.tuple_seen.ensures above H.counts.kept (subst (λ (g : ℕ). KeysAre g above c.args.self.now.keys c.args.self.now.tally.tuples) (sym a) H.tables.keys_are)
+pub tuple_seen-requires-clause-sites_low : goal.tuple_seen-requires-clause-sites_low
+unfolding row_data
+tuple_seen-requires-clause-sites_low c = tuple_low group_a _ (rw c.in-A.is at c.requires.low)
+
+pub pair_seen-requires : goal.pair_seen-requires
+unfolding row_data
+pair_seen-requires c = let l = pair_low group_e _ (rw c.in-E.is at c.requires.low) in record { from_low = l.0; to_low = l.1 }
+
+pub returns-in-B : goal.returns-in-B
+unfolding row_data
+returns-in-B c = λ t above H. rw c.in-B.is (c.bound_seen.ensures above H.counts.kept H.tables.binds_is)
+
+pub returns-in-A : goal.returns-in-A
+unfolding row_data tuple_group either
+returns-in-A c = λ t above H. rw c.in-A.is (c.tuple_seen.ensures group_a above refl H.counts.kept H.tables.keys_are)
+
+pub returns-in-E : goal.returns-in-E
+unfolding row_data pair_group either
+returns-in-E c = λ t above H. rw c.in-E.is (c.pair_seen.ensures group_e above refl H.counts.kept H.tables.hold_is)
+
+pub returns-in_default : goal.returns-in_default
+returns-in_default c = λ t above H. absurd (none_other _ _ c.requires.placed c.in_default.not-B c.in_default.not-A c.in_default.not-E)

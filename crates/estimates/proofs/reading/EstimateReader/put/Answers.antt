@@ -1,41 +1,50 @@
-use mathlib.Core.Path.{sym, ap, subst, ◌∙◌}
-use mathlib.Core.List.{[], ◌∷◌, ◌++◌}
-use Prim.Native.Nat.{ℕ, ◌+◌, ◌^◌}
-use Rattle.forms.specs.Forms.{row_data, pair_group, tuple_group}
-use Rattle.sets.specs.Lists.{either}
-use Rattle.klaim.specs.Reader.{of_group, gather, pair_place, nth}
-use Rattle.repeats.specs.Kept.{KeysAre}
-use Rattle.judge.proofs.Limits.{group_is}
-use Rattle.estimates.proofs.Rows.{tables_b, tables_a, tables_e, last_group, room_a}
+use mathlib.Core.Path.{ap}
+use Rattle.klaim.specs.Rows.{group_a, group_e}
+use Rattle.forms.specs.Forms.{tuple_data, row_data}
+use Rattle.judge.proofs.Limits.{bound_low, tuple_low, pair_low}
+use Rattle.estimates.proofs.Rows.{none_other, tables_b, tables_a, tables_e, room_a}
 use Rattle.estimates.proofs.reading.EstimateReader.put.Goals as goal
 
-pub put_row-requires-clause-group_value : goal.put_row-requires-clause-group_value
-unfolding tuple_group either
-put_row-requires-clause-group_value c = rw c.in-8.is
+pub put_bound-requires-clause-variable_low : goal.put_bound-requires-clause-variable_low
+unfolding row_data
+put_bound-requires-clause-variable_low c = (bound_low _ (rw c.in-B.is at c.requires.low)).0
+
+pub put_bound-requires-clause-site_low : goal.put_bound-requires-clause-site_low
+unfolding row_data
+put_bound-requires-clause-site_low c = (bound_low _ (rw c.in-B.is at c.requires.low)).1
+
+pub put_row-requires-clause-sites_low : goal.put_row-requires-clause-sites_low
+unfolding row_data
+put_row-requires-clause-sites_low c = tuple_low group_a _ (rw c.in-A.is at c.requires.low)
 
 pub put_row-requires-clause-k_bound : goal.put_row-requires-clause-k_bound
-put_row-requires-clause-k_bound c = room_a _ _ c.requires.passed c.in-8.is
+unfolding row_data tuple_data
+put_row-requires-clause-k_bound c = room_a _ _ (ap (λ r. (row_data r).group) c.in-A.is) c.requires.room
 
-pub keep_key-requires-clause-group_value : goal.keep_key-requires-clause-group_value
-unfolding tuple_group either
-keep_key-requires-clause-group_value c = rw c.in-8.is
+pub keep_key-requires-clause-sites_low : goal.keep_key-requires-clause-sites_low
+unfolding row_data
+keep_key-requires-clause-sites_low c = tuple_low group_a _ (rw c.in-A.is at c.requires.low)
 
 pub keep_key-requires-clause-k_bound : goal.keep_key-requires-clause-k_bound
-keep_key-requires-clause-k_bound c = room_a _ _ c.requires.passed c.in-8.is
+unfolding row_data tuple_data
+keep_key-requires-clause-k_bound c = room_a _ _ (ap (λ r. (row_data r).group) c.in-A.is) c.requires.room
 
-pub put_pair-requires-clause-group_value : goal.put_pair-requires-clause-group_value
-unfolding pair_group either
-put_pair-requires-clause-group_value c = rw (last_group _ _ c.requires.row_value c.requires.passed c.in_default.in_default-own.rest.0.1 c.in_default.in_default-own.rest.1)
+pub put_pair-requires-clause-from_low : goal.put_pair-requires-clause-from_low
+unfolding row_data
+put_pair-requires-clause-from_low c = (pair_low group_e _ (rw c.in-E.is at c.requires.low)).0
 
-pub returns-in-7-clause-tables : goal.returns-in-7-clause-tables
-returns-in-7-clause-tables c = λ above T.
-    tables_b T _ (group_is _ c.requires.row_value c.requires.passed.some) c.in-7.is (c.put_bound.ensures above (T.binds_is ∙ ap (λ (g : ℕ). gather 32 (λ x. nth x.vars 0) (λ x. 2 ^ nth x.sites 0) (of_group g above)) (sym c.in-7.is)) ∙ ap (λ (g : ℕ). gather 32 (λ x. nth x.vars 0) (λ x. 2 ^ nth x.sites 0) (of_group g (above ++ (row_data c.args.row ∷ [])))) c.in-7.is)
+pub put_pair-requires-clause-to_low : goal.put_pair-requires-clause-to_low
+unfolding row_data
+put_pair-requires-clause-to_low c = (pair_low group_e _ (rw c.in-E.is at c.requires.low)).1
 
-pub returns-in-8-clause-tables : goal.returns-in-8-clause-tables
-returns-in-8-clause-tables c = λ above T.
-    tables_a T _ (group_is _ c.requires.row_value c.requires.passed.some) c.in-8.is c.put_row.ensures (subst (λ (g : ℕ). KeysAre g (above ++ (row_data c.args.row ∷ [])) c.keep_key.new.keys (c.args.self.now.tally.tuples + 1)) c.in-8.is (c.keep_key.ensures above (subst (λ (g : ℕ). KeysAre g above c.args.self.now.keys c.args.self.now.tally.tuples) (sym c.in-8.is) T.keys_are)))
+pub returns-in-B-clause-tables : goal.returns-in-B-clause-tables
+returns-in-B-clause-tables c = λ above T. rw c.in-B.is (tables_b T c.in-B.bound (c.put_bound.ensures above T.binds_is))
+
+pub returns-in-A-clause-tables : goal.returns-in-A-clause-tables
+returns-in-A-clause-tables c = λ above T. rw c.in-A.is (tables_a T c.in-A.tuple c.put_row.ensures (c.keep_key.ensures group_a above T.keys_are))
+
+pub returns-in-E-clause-tables : goal.returns-in-E-clause-tables
+returns-in-E-clause-tables c = λ above T. rw c.in-E.is (tables_e T c.in-E.pair (c.put_pair.ensures group_e above T.hold_is))
 
 pub returns-in_default-clause-tables : goal.returns-in_default-clause-tables
-returns-in_default-clause-tables c = λ above T.
-    let e = last_group _ _ c.requires.row_value c.requires.passed c.in_default.in_default-own.rest.0.1 c.in_default.in_default-own.rest.1 in
-    tables_e T _ (group_is _ c.requires.row_value c.requires.passed.some) e (c.put_pair.ensures above (T.hold_is ∙ ap (λ (g : ℕ). gather 1024 pair_place (λ x. x.rights) (of_group g above)) (sym e)) ∙ ap (λ (g : ℕ). gather 1024 pair_place (λ x. x.rights) (of_group g (above ++ (row_data c.args.row ∷ [])))) e)
+returns-in_default-clause-tables c = λ above T. absurd (none_other _ _ c.requires.placed c.in_default.not-B c.in_default.not-A c.in_default.not-E)

@@ -1,21 +1,20 @@
-use borrow.Author.Tests.{ne_eqb}
-use Rattle.text.proofs.Tests.{tests}
+use mathlib.Core.Path.{refl}
 use Rattle.sets.specs.Lists.{◌&◌}
 use Rattle.nets.specs.Rows.{full_of}
+use Rattle.nets.proofs.Rows.{full_rest}
 use Rattle.nets.proofs.reading.NetReader.is_full.Goals as goal
 
-pub returns-in-4 : goal.returns-in-4
+pub returns-in-T : goal.returns-in-T
 unfolding full_of ◌&◌
-returns-in-4 c = rw c.in-4.is (search tests)
+returns-in-T c = rw c.in-T.is refl
 
-pub returns-in-5 : goal.returns-in-5
+pub returns-in-L : goal.returns-in-L
 unfolding full_of ◌&◌
-returns-in-5 c = rw c.in-5.is (search tests)
+returns-in-L c = rw c.in-L.is refl
 
-pub returns-in-6 : goal.returns-in-6
+pub returns-in-Q : goal.returns-in-Q
 unfolding full_of ◌&◌
-returns-in-6 c = rw c.in-6.is (search tests)
+returns-in-Q c = rw c.in-Q.is refl
 
 pub returns-in_default : goal.returns-in_default
-unfolding full_of ◌&◌
-returns-in_default c = rw (ne_eqb _ 4 c.in_default.in_default-own.rest.0.0.1, ne_eqb _ 5 c.in_default.in_default-own.rest.0.1, ne_eqb _ 6 c.in_default.in_default-own.rest.1)
+returns-in_default c = full_rest _ _ c.in_default.not-T c.in_default.not-L c.in_default.not-Q

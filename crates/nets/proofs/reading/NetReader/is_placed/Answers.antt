@@ -2,6 +2,9 @@ use mathlib.Core.Path.{◌≡◌, refl}
 use mathlib.Core.Bool.{Bool, true, false, ◌&&◌, beq}
 use lib.Dec.{eqb, leb}
 use Rattle.sets.specs.Lists.{◌&◌, imp}
+use Rattle.forms.specs.Forms.{group_number}
+use Rattle.scan.specs.Tallies.{last_number}
+use Rattle.scan.proofs.Tallies.{no_last}
 use Rattle.nets.specs.Rows.{placed_of}
 use Rattle.nets.proofs.reading.NetReader.is_placed.Goals as goal
 
@@ -16,4 +19,6 @@ by_tests false false false b = refl
 
 pub returns : goal.returns
 unfolding placed_of
-returns c = by_tests (eqb c.args.self.now.tally.last 0) (eqb c.args.group 1) (leb c.args.group 6) (leb c.args.self.now.tally.last c.args.group)
+returns c =
+    rw (no_last _ _ c.is_none.ensures, c.is_head.ensures, c.is_own.ensures, c.in_order.ensures)
+    (by_tests (eqb (last_number c.args.self.now.tally.last) 0) (eqb (group_number c.args.group) 1) (leb (group_number c.args.group) 6) (leb (last_number c.args.self.now.tally.last) (group_number c.args.group)))

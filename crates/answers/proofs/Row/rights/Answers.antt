@@ -1,0 +1,7 @@
+use Rattle.answers.specs.Made.{made}
+use Rattle.answers.proofs.Printed.{wrote_on}
+use Rattle.answers.proofs.Row.rights.Goals as goal
+
+pub returns-clause-adds : goal.returns-clause-adds
+unfolding made
+returns-clause-adds g c = record { made_is = wrote_on c.put_rights-self.ensures.wrote; ends = c.put_rights-self.ensures.wrote.ends }

@@ -1,0 +1,17 @@
+use mathlib.Core.Path.{refl}
+use Rattle.sets.specs.Lists.{all, ◌⧺◌}
+use Rattle.klaim.specs.Process.{sites_in, used_in, bound_in}
+use Rattle.text.specs.Fields.{loc, slot}
+use Rattle.judge.proofs.FieldNumbered.low_site.Goals as goal
+
+pub returns-in-Value : goal.returns-in-Value
+unfolding all loc slot sites_in used_in bound_in ◌⧺◌
+returns-in-Value c = rw c.in-Value.is c.low_site.ensures
+
+pub returns-in-Binder : goal.returns-in-Binder
+unfolding all loc slot sites_in used_in bound_in ◌⧺◌
+returns-in-Binder c = rw c.in-Binder.is refl
+
+pub returns-in-Wildcard : goal.returns-in-Wildcard
+unfolding all loc slot sites_in used_in bound_in ◌⧺◌
+returns-in-Wildcard c = rw c.in-Wildcard.is refl

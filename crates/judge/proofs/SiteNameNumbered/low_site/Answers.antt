@@ -1,0 +1,10 @@
+use mathlib.Core.Path.{sym}
+use Rattle.sets.specs.Lists.{all, ◌⧺◌}
+use Rattle.sets.proofs.Lists.{and_true}
+use Rattle.klaim.specs.Process.{sites_in, used_in, bound_in}
+use Rattle.text.specs.Fields.{loc, slot}
+use Rattle.judge.proofs.SiteNameNumbered.low_site.Goals as goal
+
+pub returns : goal.returns
+unfolding all loc slot sites_in used_in bound_in ◌⧺◌
+returns c = sym (and_true _)

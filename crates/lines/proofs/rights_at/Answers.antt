@@ -1,4 +1,0 @@
-use Rattle.lines.proofs.rights_at.Goals as goal
-
-pub returns : goal.returns
-returns c = rw (← c.field.ensures) c.rights.ensures.result_value
