@@ -54,6 +54,7 @@ fn put_bindings<const N: usize>(row: &mut Row<N>, thread: &Thread)
 {
     let from = row.len();
     for (u, site) in thread.bindings.iter().enumerate() {
+        // No `From` leads from `usize` to `u8`; u is below 32.
         if sets::has_site(thread.bound, u as u8) {
             put_binding(row, row.len() == from, u, *site);
         }

@@ -61,7 +61,7 @@ fn say_ready<W: Write>(output: &mut W, answer: ReadyAnswer) -> io::Result<()> {
     }
 }
 
-// A step, guarded or bare.
+// A step, guarded or bare. `exports` has the same call for C, on numbers.
 fn act(state: &mut State, guarded: bool, choice: Choice)
     requires { Fits state.old }
     ensures { Stepped guarded state.old choice.thread choice.tuple choice.root state.new }
