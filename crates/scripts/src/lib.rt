@@ -4,7 +4,6 @@
 
 ghost use Rattle.std.specs.Prelude.{◌≡◌, false, ◌≤◌, length};
 ghost use Rattle.std.specs.declared.io.Error.{Error};
-ghost use Rattle.script_rows.specs.Window.{Within};
 ghost use Rattle.state.specs.Fits.{Fits};
 ghost use Rattle.step.specs.Stepped.{Stepped};
 ghost use Rattle.brings.specs.Brought.{Brought};
@@ -12,7 +11,7 @@ ghost use Rattle.withdraws.specs.Withdrawn.{Withdrawn};
 
 use commands::{Choice, Command};
 use ready::{DoorAnswer, ReadyAnswer};
-use script_rows::{Find, Window};
+use script_rows::{Find, Incoming};
 use state::{State, Told};
 use std::io;
 use std::io::{Read, Write};
@@ -62,7 +61,7 @@ fn say_ready<W: Write>(output: &mut W, answer: ReadyAnswer) -> io::Result<()> {
     }
 }
 
-// A step, guarded or bare.
+// A step, guarded or bare. `exports` has the same call for C, on numbers.
 fn act(state: &mut State, guarded: bool, choice: Choice)
     requires { Fits state.old }
     ensures { Stepped guarded state.old choice.thread choice.tuple choice.root state.new }
@@ -155,40 +154,35 @@ fn respond<W: Write>(output: &mut W, state: &State, command: Command) -> io::Res
 
 // Obeys the next command and prints its row; false, where the input has ended.
 fn turn<R: Read, W: Write>(
-    input: &mut R,
+    incoming: &mut Incoming<'_, R>,
     output: &mut W,
-    buf: &mut [u8],
-    window: &mut Window,
     state: &mut State,
 ) -> Result<bool, Failure>
-    requires { Within window.old buf.old × Fits state.old }
-    ensures within { Within window.new buf.new × Fits state.new }
-    ensures failed { (why : Error) → window.new.found ≡ Find.Failed why → result ≡ Err (Failure.Unread why) }
-    ensures ended { result ≡ Ok false → window.new.found ≡ Find.End }
+    requires { Fits state.old }
+    ensures fits { Fits state.new }
+    ensures failed { (why : Error) → incoming.new.window.found ≡ Find.Failed why → result ≡ Err (Failure.Unread why) }
+    ensures ended { result ≡ Ok false → incoming.new.window.found ≡ Find.End }
 {
-    let asked = commands::next(input, buf, window).map_err(Failure::Unread)?;
+    let asked = commands::next(incoming).map_err(Failure::Unread)?;
     let Some(command) = asked else {
         return Ok(false);
     };
-    obey(state, command, &buf[window.from..window.row]);
+    obey(state, command, incoming.kept());
     respond(output, state, command).map_err(Failure::Unwritten)?;
     Ok(true)
 }
 
 // Runs the commands to the end of the input, and prints the state. They are counted, to a number that no run uses up.
 fn run_all<R: Read, W: Write>(
-    input: &mut R,
+    incoming: &mut Incoming<'_, R>,
     output: &mut W,
-    buf: &mut [u8],
-    first: Window,
     begun: State,
 ) -> Result<(), Failure>
-    requires { Within first buf.old × Fits begun }
+    requires { Fits begun }
 {
-    let mut window = first;
     let mut state = begun;
     for _ in 0..u64::MAX {
-        if !turn(input, output, buf, &mut window, &mut state)? {
+        if !turn(incoming, output, &mut state)? {
             break;
         }
     }
@@ -197,20 +191,18 @@ fn run_all<R: Read, W: Write>(
 
 // Runs the commands on the state that begins, unless it was refused.
 fn carry_on<R: Read, W: Write>(
-    input: &mut R,
+    incoming: &mut Incoming<'_, R>,
     output: &mut W,
-    buf: &mut [u8],
-    head: Window,
     state: State,
 ) -> Result<(), Failure>
-    requires { Within head buf.old × (state.run.told.number ≡ 0 → Fits state) }
+    requires { state.run.told.number ≡ 0 → Fits state }
 {
     let told = state.run.told;
     if told.number != 0 {
         return answers::say_refused(output, told.number, told.row).map_err(Failure::Unwritten);
     }
     answers::say(output, b"started\n").map_err(Failure::Unwritten)?;
-    run_all(input, output, buf, head, state)
+    run_all(incoming, output, state)
 }
 
 // The state that begins from a net, and an estimate up to a row `.`.
@@ -231,40 +223,30 @@ fn begin(head: &[u8]) -> State
 }
 
 // Reads the head: up to the second row `.`, or all of the input.
-fn read_head<R: Read>(input: &mut R, buf: &mut [u8], first: Window) -> Window
-    requires { Within first buf.old }
-    ensures { Within result buf.new }
-{
-    let net = first.dot(input, buf);
-    match net.found {
-        Find::Row => net.dot(input, buf),
-        _ => net,
+fn read_head<R: Read>(incoming: &mut Incoming<'_, R>) {
+    incoming.dot();
+    if let Find::Row = incoming.window.found {
+        incoming.dot();
     }
 }
 
 // Whether a head is longer than the limit.
-fn is_long(head: Window) -> bool
-    requires { head.from ≤ head.next }
-{
-    matches!(head.found, Find::Full) || HEAD_LIMIT < head.next - head.from
+fn is_long<R: Read>(incoming: &Incoming<'_, R>) -> bool {
+    matches!(incoming.window.found, Find::Full) || HEAD_LIMIT < incoming.head().len()
 }
 
 // Runs a script: net rows, a row `.`, estimate rows, a row `.`, commands. A head longer than the limit is 2, row 0.
 pub fn run<R: Read, W: Write>(
-    input: &mut R,
+    incoming: &mut Incoming<'_, R>,
     output: &mut W,
-    buf: &mut [u8],
-    first: Window,
-) -> Result<(), Failure>
-    requires { Within first buf.old }
-{
-    let head = read_head(input, buf, first);
-    if let Find::Failed(why) = head.found {
+) -> Result<(), Failure> {
+    read_head(incoming);
+    if let Find::Failed(why) = incoming.window.found {
         return Err(Failure::Unread(why));
     }
-    if is_long(head) {
+    if is_long(incoming) {
         return answers::say_refused(output, 2, 0).map_err(Failure::Unwritten);
     }
-    let state = begin(&buf[head.from..head.next]);
-    carry_on(input, output, buf, head, state)
+    let state = begin(incoming.head());
+    carry_on(incoming, output, state)
 }
