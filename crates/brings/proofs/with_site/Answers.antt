@@ -8,5 +8,5 @@ returns-then-here c =
     let ar = c.args in
     λ s. rw c.single.ensures (one_more ar.sites ar.l s c.if-here.true)
 
-pub returns : goal.returns
-returns c = let ar = c.args in λ s. no_more ar.sites ar.l s c.if-here.false
+pub returns-else-here : goal.returns-else-here
+returns-else-here c = let ar = c.args in λ s. no_more ar.sites ar.l s c.if-here.false
