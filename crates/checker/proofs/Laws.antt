@@ -15,11 +15,11 @@ use Rattle.klaim.specs.Analysis.{Verdict, verdict}
 use Rattle.klaim.specs.Check.{written, check_read, check}
 use Rattle.klaim.specs.Reader.{gives, refused, World, read_both}
 use Rattle.klaim.proofs.Reader.{both_read}
-use Rattle.tables.specs.View.{row_at, rows_view, roots_view, net_view, estimate_view}
+use Rattle.tables.specs.View.{row_at, rows_view}
 use Rattle.tables.proofs.LineTable.{length_view}
-use Rattle.report.specs.Given.{Rooted, Given}
-use Rattle.report.proofs.Ready.{rooted, given}
-use Rattle.verdict.specs.Verdict.{Tabled, Judgeable}
+use Rattle.report.specs.Given.{Rooted}
+use Rattle.report.proofs.Ready.{rooted}
+use Rattle.verdict.specs.Verdict.{Judgeable}
 use Rattle.worlds.specs.declared.World as Code
 use Rattle.worlds.specs.World.{world_view}
 use Rattle.checker.specs.Check.{WellFormed}
@@ -33,39 +33,19 @@ fit_low : (n : ℕ) (ts : List (List ℕ)) → n ≤ 32 → all (all_below n) ts
 unfolding all_below
 fit_low n ts h f = all_i _ ts (λ t i. all_i _ t (λ s j. lt-ltb s 32 (omega (arith, ltb_lt s n (all_at _ j (all_at _ i f))))))
 
-pub tabled : (w : Code.World) → Tabled (world_view w).net (world_view w).estimate w.net.boxes w.net.tuples w.net.ntuples w.net.roots w.net.nroots w.net.lines w.net.nlines w.estimate.binds w.estimate.stand w.estimate.nstand w.estimate.hold
-unfolding world_view net_view estimate_view
-tabled w = record { boxes_is = refl; tuples_is = refl; roots_is = refl; lines_is = refl; binds_is = refl; stand_is = refl; hold_is = refl }
-
-module _ (w : Code.World) where
-  pub given_world : Given (world_view w).net (world_view w).estimate w.net.homes w.net.boxes w.net.nlines w.net.lines w.estimate.binds
-  unfolding world_view
-  given_world = given w.net w.estimate
-
-  pub roots_world : (world_view w).net.roots ≡ roots_view w.net.nroots w.net.roots
-  unfolding world_view net_view
-  roots_world = refl
-
-  pub hold_world : (world_view w).estimate.hold ≡ w.estimate.hold
-  unfolding world_view estimate_view
-  hold_world = refl
-
-  pub rooted_world : WellFormed w → Rooted w.net.nlines w.net.lines w.net.nroots w.net.roots
-  unfolding world_view
-  rooted_world S = rooted w.net S.net
-
 module _ (w : Code.World) (S : WellFormed w) where
-  pub judgeable : length w.net.tuples ≡ 1536 → length w.net.lines ≡ 2560 → length w.estimate.stand ≡ 1536 → Judgeable w.net.tuples w.net.ntuples w.net.roots w.net.nroots w.net.lines w.net.nlines w.estimate.stand w.estimate.nstand
-  unfolding world_view net_view estimate_view rows_view
-  judgeable t l s = record {
-    tuples_few = omega (arith, S.net.tuples_few, length_table w.net.ntuples (row_at w.net.tuples));
-    tuples_long = t;
+  pub rooted_world : Rooted w.net.lines w.net.roots
+  unfolding world_view
+  rooted_world = rooted w.net S.net
+
+  pub judgeable : length w.estimate.stand.bytes ≡ 1536 → Judgeable w.net w.estimate
+  unfolding world_view rows_view
+  judgeable s = record {
+    tuples_few = omega (arith, S.net.tuples_few, length_table w.net.tuples.count (row_at w.net.tuples.bytes));
     tuples_low = fit_low _ _ S.net.sites_few S.net.tuples_fit;
     rooted = rooted w.net S.net;
-    lines_few = omega (arith, S.net.lines_few, length_view w.net.nlines w.net.lines);
-    lines_long = l;
     sized = record {
-      few = omega (arith, S.estimate.stand_few, length_table w.estimate.nstand (row_at w.estimate.stand));
+      few = omega (arith, S.estimate.stand_few, length_table w.estimate.stand.count (row_at w.estimate.stand.bytes));
       long = s;
       alone = S.estimate.stand_distinct;
       low = fit_low _ _ S.net.sites_few S.estimate.stand_fit;

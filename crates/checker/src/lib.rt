@@ -20,19 +20,7 @@ pub fn judged(w: World) -> Verdict
     requires { WellFormed w }
     ensures { verdict_view result ≡ verdict_of (world_view w).net (world_view w).estimate }
 {
-    verdict::judge(
-        &w.net.tuples,
-        w.net.ntuples,
-        &w.net.roots,
-        w.net.nroots,
-        &w.net.lines,
-        w.net.nlines,
-        &w.net.boxes,
-        &w.estimate.binds,
-        &w.estimate.hold,
-        &w.estimate.stand,
-        w.estimate.nstand,
-    )
+    verdict::judge(&w.net, &w.estimate)
 }
 
 // The report of a net and its estimate.
@@ -40,16 +28,7 @@ pub fn reported(w: World) -> [u8; 1024]
     requires { WellFormed w }
     ensures { result ≡ report_of (world_view w).net (world_view w).estimate }
 {
-    report::report(
-        &w.net.homes,
-        &w.net.boxes,
-        &w.net.roots,
-        w.net.nroots,
-        &w.net.lines,
-        w.net.nlines,
-        &w.estimate.binds,
-        &w.estimate.hold,
-    )
+    report::report(&w.net, &w.estimate)
 }
 
 // The verdict on a net and its estimate that were read; the report is written where they are accepted. The buffer's further bytes stay.

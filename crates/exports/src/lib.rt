@@ -3,13 +3,11 @@
 //! promise no more; what is promised of a public call stands at that call.
 #![tactic(auto)]
 
-ghost use Rattle.std.specs.Prelude.{◌≡◌, ◌<◌, ◌≤◌};
+ghost use Rattle.std.specs.Prelude.{◌≤◌, IfOk};
 ghost use Rattle.state.specs.Fits.{Fits};
-ghost use Rattle.state.specs.Lent.{gone_on};
 
 use klaim::Refusal;
-use ready::{DoorAnswer, ReadyAnswer};
-use state::{Run, State};
+use state::State;
 use verdict::Verdict;
 
 // What is added to the number of a broken T row, of a broken line, of a refusal; accepted is 0.
@@ -19,12 +17,8 @@ const BROKEN_Q: u32 = 131072;
 
 const REFUSED: u32 = 196608;
 
-// What `ready` says of no place, and the door of a closed one; one that passes is 1, a refusal its number.
+// What `ready` says of no place.
 const NO_PLACE: u32 = 64;
-
-const CLOSED: u32 = 0;
-
-const PASSES: u32 = 1;
 
 // Bytes of `choices` for one call: three numbers.
 const CHOICE: usize = 3;
@@ -69,7 +63,7 @@ pub extern "C" fn salmurkki_read(net: &[u8], estimate: &[u8]) -> u32 {
 // Byte i of the choices, 0 beyond them.
 fn choice(choices: &[u8], i: usize) -> usize {
     if i < choices.len() {
-        return tables::wide(choices[i]);
+        return usize::from(choices[i]);
     }
     0
 }
@@ -87,175 +81,123 @@ fn turned(at: usize, len: usize) -> usize
     at + CHOICE
 }
 
-// 1 for a call that was not refused.
-fn done(number: u8) -> u32 {
-    if number == 0 {
-        return 1;
-    }
-    0
-}
-
 // The place that is ready, as a number.
-fn placed(answer: ReadyAnswer) -> u32 {
+fn placed(answer: Option<u8>) -> u32 {
     match answer {
-        ReadyAnswer::Place(k) => k as u32,
-        ReadyAnswer::None => NO_PLACE,
+        Some(k) => u32::from(k),
+        None => NO_PLACE,
     }
 }
 
-// The door's answer as a number.
-fn opened(answer: DoorAnswer) -> u32 {
+// The door's answer as a number: 1 where it passes, 0 where it is closed, or the number of its refusal.
+fn opened(answer: Result<bool, Refusal>) -> u32 {
     match answer {
-        DoorAnswer::Passes => PASSES,
-        DoorAnswer::Closed => CLOSED,
-        DoorAnswer::Refused(number) => number as u32,
+        Ok(passes) => u32::from(passes),
+        Err(refusal) => u32::from(refusal.why.number()),
     }
 }
 
-// The state with an arrival brought; where it is refused, or there is none, the state as it was.
-fn brought(state: State, arrival: &[u8]) -> State
-    requires { Fits state }
-    ensures { Fits result }
+// Steps, guarded or bare, each by the next three of the choices: how many of them were performed.
+fn steps(state: &mut State, guarded: bool, choices: &[u8], count: usize) -> u32
+    requires { Fits state.old }
+    ensures { Fits state.new }
 {
-    brings::bring(state, arrival)
-}
-
-// Steps made: the tuples and the run behind them, and how many of them were performed.
-#[derive(Clone, Copy)]
-pub struct Walked {
-    pub tuples: [u8; 1536],
-    pub run: Run,
-    pub performed: u32,
-}
-
-// Steps, guarded or bare, each by the next three of the choices.
-fn steps(state: State, guarded: bool, choices: &[u8], count: usize) -> Walked
-    requires { Fits state }
-    ensures { Fits (gone_on state result.tuples result.run) }
-{
-    let nlines = state.nlines;
-    let narrivals = state.narrivals;
-    let mut tuples = state.tuples;
-    let mut run = state.run;
     let mut performed: u32 = 0;
     let mut at: usize = 0;
-    let mut i: usize = 0;
-    while i < count {
+    for _ in 0..count {
         let k = choice(choices, at);
         let m = choice(choices, at + 1);
         let r = choice(choices, at + 2);
-        run = step::step(
-            &state.net.homes,
-            &state.net.boxes,
-            &state.estimate.binds,
-            &state.lines,
-            nlines,
-            &state.arrivals,
-            narrivals,
-            &state.sound,
-            &mut tuples,
-            run,
-            guarded,
-            k,
-            m,
-            r,
-        );
-        performed = std::num::wrapping_add_u32(performed, done(run.told.number));
+        step::step(state, guarded, k, m, r);
+        performed = performed.wrapping_add(u32::from(state.told.is_ok()));
         at = turned(at, choices.len());
-        i += 1;
     }
-    Walked {
-        tuples,
-        run,
-        performed,
-    }
+    performed
 }
 
-// The state behind one bare step for every three of the choices.
-fn prepared(state: State, choices: &[u8]) -> State
-    requires { Fits state }
-    ensures { Fits result }
+// One bare step for every three of the choices.
+fn prepare(state: &mut State, choices: &[u8])
+    requires { Fits state.old }
+    ensures { Fits state.new }
 {
-    let walked = steps(state, false, choices, choices.len() / CHOICE);
-    let tuples = walked.tuples;
-    let run = walked.run;
-    let mut last = state;
-    last.tuples = tuples;
-    last.run = run;
-    last
+    steps(state, false, choices, choices.len() / CHOICE);
 }
 
 // Asks what is ready: the sum of the places.
-fn ready_times(state: State, count: usize) -> u32
-    requires { Fits state }
+fn ready_times(state: &State, count: usize) -> u32
+    requires { Fits state.now }
 {
     let mut sum: u32 = 0;
-    let mut i: usize = 0;
-    while i < count {
-        sum = std::num::wrapping_add_u32(sum, placed(ready::ready(state)));
-        i += 1;
+    for _ in 0..count {
+        sum = sum.wrapping_add(placed(ready::ready(state)));
     }
     sum
 }
 
 // Tries the door, each time by the next three of the choices (root, site, sandbox): the sum of the answers.
-fn door_times(state: State, choices: &[u8], count: usize) -> u32
-    requires { Fits state }
+fn door_times(state: &State, choices: &[u8], count: usize) -> u32
+    requires { Fits state.now }
 {
-    let size = state.net.size;
-    let nlines = state.nlines;
-    let narrivals = state.narrivals;
     let mut sum: u32 = 0;
     let mut at: usize = 0;
-    let mut i: usize = 0;
-    while i < count {
+    for _ in 0..count {
         let r = choice(choices, at);
         let l = choice(choices, at + 1);
         let d = choice(choices, at + 2);
-        let answer = ready::door(
-            size,
-            &state.net.boxes,
-            &state.estimate.binds,
-            &state.lines,
-            nlines,
-            &state.arrivals,
-            narrivals,
-            &state.sound,
-            r,
-            l,
-            d,
-        );
-        sum = std::num::wrapping_add_u32(sum, opened(answer));
+        sum = sum.wrapping_add(opened(ready::door(state, r, l, d)));
         at = turned(at, choices.len());
-        i += 1;
     }
     sum
 }
 
 // Brings an arrival to the same state again and again: the last state.
-fn bring_times(state: State, arrival: &[u8], count: usize) -> State
-    requires { Fits state }
+fn bring_times(state: &State, arrival: &[u8], count: usize) -> State
+    requires { Fits state.now }
     ensures { Fits result }
 {
-    let mut last = state;
-    let mut i: usize = 0;
-    while i < count {
-        last = brings::bring(state, arrival);
-        i += 1;
+    let mut last = *state;
+    for _ in 0..count {
+        last = *state;
+        brings::bring(&mut last, arrival);
     }
     last
 }
 
-// Steps behind a start and a bring.
-fn steps_behind(state: State, guarded: bool, arrival: &[u8], choices: &[u8], count: usize) -> u32
-    requires { state.run.told.number ≡ 0 → Fits state }
+// Withdraws the newest arrival from the same state again and again: the last state.
+fn withdraw_times(state: &State, count: usize) -> State
+    requires { Fits state.now }
+    ensures { Fits result }
 {
-    if state.run.told.number != 0 {
-        return REFUSED;
+    let mut last = *state;
+    for _ in 0..count {
+        last = *state;
+        withdraws::withdraw(&mut last);
     }
-    let next = brought(state, arrival);
-    let walked = steps(next, guarded, choices, count);
-    walked.performed
+    last
+}
+
+// The state behind a start and a bring; where the bring is refused, or there is no arrival, the state as it was.
+fn brought(net: &[u8], estimate: &[u8], arrival: &[u8]) -> Result<State, Refusal>
+    ensures { IfOk result Fits }
+{
+    let mut state = starts::start(net, estimate)?;
+    brings::bring(&mut state, arrival);
+    Ok(state)
+}
+
+// Steps behind a start and a bring.
+fn steps_behind(
+    net: &[u8],
+    estimate: &[u8],
+    guarded: bool,
+    arrival: &[u8],
+    choices: &[u8],
+    count: usize,
+) -> u32 {
+    match brought(net, estimate, arrival) {
+        Ok(mut state) => steps(&mut state, guarded, choices, count),
+        Err(_) => REFUSED,
+    }
 }
 
 // Starts, brings the arrival and makes bare steps.
@@ -267,8 +209,7 @@ pub extern "C" fn salmurkki_steps(
     choices: &[u8],
     count: usize,
 ) -> u32 {
-    let state = starts::start(net, estimate);
-    steps_behind(state, false, arrival, choices, count)
+    steps_behind(net, estimate, false, arrival, choices, count)
 }
 
 // Starts, brings the arrival and makes guarded steps.
@@ -280,19 +221,7 @@ pub extern "C" fn salmurkki_guarded_steps(
     choices: &[u8],
     count: usize,
 ) -> u32 {
-    let state = starts::start(net, estimate);
-    steps_behind(state, true, arrival, choices, count)
-}
-
-// The door behind a start and a bring.
-fn door_behind(state: State, arrival: &[u8], choices: &[u8], count: usize) -> u32
-    requires { state.run.told.number ≡ 0 → Fits state }
-{
-    if state.run.told.number != 0 {
-        return REFUSED;
-    }
-    let next = brought(state, arrival);
-    door_times(next, choices, count)
+    steps_behind(net, estimate, true, arrival, choices, count)
 }
 
 // Starts, brings the arrival and tries the door.
@@ -304,19 +233,18 @@ pub extern "C" fn salmurkki_door(
     choices: &[u8],
     count: usize,
 ) -> u32 {
-    let state = starts::start(net, estimate);
-    door_behind(state, arrival, choices, count)
+    match brought(net, estimate, arrival) {
+        Ok(state) => door_times(&state, choices, count),
+        Err(_) => REFUSED,
+    }
 }
 
-// What is ready behind a start, a bring and some steps.
-fn ready_behind(state: State, arrival: &[u8], choices: &[u8], count: usize) -> u32
-    requires { state.run.told.number ≡ 0 → Fits state }
+// What is ready behind a step for every three of the choices.
+fn ready_behind(mut state: State, choices: &[u8], count: usize) -> u32
+    requires { Fits state }
 {
-    if state.run.told.number != 0 {
-        return REFUSED;
-    }
-    let next = brought(state, arrival);
-    ready_times(prepared(next, choices), count)
+    prepare(&mut state, choices);
+    ready_times(&state, count)
 }
 
 // Starts, brings the arrival, makes a bare step for every three of the choices, and asks what is ready.
@@ -328,19 +256,18 @@ pub extern "C" fn salmurkki_ready(
     choices: &[u8],
     count: usize,
 ) -> u32 {
-    let state = starts::start(net, estimate);
-    ready_behind(state, arrival, choices, count)
+    match brought(net, estimate, arrival) {
+        Ok(state) => ready_behind(state, choices, count),
+        Err(_) => REFUSED,
+    }
 }
 
-// An arrival brought behind a start, and what is then ready.
+// An arrival brought to the same state again and again, and what is then ready.
 fn bring_behind(state: State, arrival: &[u8], count: usize) -> u32
-    requires { state.run.told.number ≡ 0 → Fits state }
+    requires { Fits state }
 {
-    if state.run.told.number != 0 {
-        return REFUSED;
-    }
-    let last = bring_times(state, arrival, count);
-    placed(ready::ready(last))
+    let last = bring_times(&state, arrival, count);
+    placed(ready::ready(&last))
 }
 
 // Starts and brings the arrival to the same state again and again; then what is ready.
@@ -351,41 +278,27 @@ pub extern "C" fn salmurkki_bring(
     arrival: &[u8],
     count: usize,
 ) -> u32 {
-    let state = starts::start(net, estimate);
-    bring_behind(state, arrival, count)
-}
-
-// Withdraws the newest arrival from the same state again and again: the last state.
-fn withdraw_times(state: State, count: usize) -> State
-    requires { Fits state }
-    ensures { Fits result }
-{
-    let mut last = state;
-    let mut i: usize = 0;
-    while i < count {
-        last = withdraws::withdraw(state);
-        i += 1;
+    match starts::start(net, estimate) {
+        Ok(state) => bring_behind(state, arrival, count),
+        Err(_) => REFUSED,
     }
-    last
 }
 
 // How many lines a state has, and what is ready in it, as one number.
-fn counted(state: State) -> u32
-    requires { Fits state }
+fn counted(state: &State) -> u32
+    requires { Fits state.now }
 {
-    let lines = state.nlines as u32;
-    std::num::wrapping_add_u32(lines * (NO_PLACE + 1), placed(ready::ready(state)))
+    let lines = state.lines.count as u32;
+    (lines * (NO_PLACE + 1)).wrapping_add(placed(ready::ready(state)))
 }
 
-// The newest arrival withdrawn behind a start, a bring and some steps.
-fn withdraw_behind(state: State, arrival: &[u8], choices: &[u8], count: usize) -> u32
-    requires { state.run.told.number ≡ 0 → Fits state }
+// The newest arrival withdrawn behind a step for every three of the choices.
+fn withdraw_behind(mut state: State, choices: &[u8], count: usize) -> u32
+    requires { Fits state }
 {
-    if state.run.told.number != 0 {
-        return REFUSED;
-    }
-    let next = brought(state, arrival);
-    counted(withdraw_times(prepared(next, choices), count))
+    prepare(&mut state, choices);
+    let last = withdraw_times(&state, count);
+    counted(&last)
 }
 
 // Starts, brings the arrival, makes a bare step for every three of the choices, and withdraws the newest arrival from the state behind
@@ -398,29 +311,19 @@ pub extern "C" fn salmurkki_withdraw(
     choices: &[u8],
     count: usize,
 ) -> u32 {
-    let state = starts::start(net, estimate);
-    withdraw_behind(state, arrival, choices, count)
-}
-
-// What is ready behind a start.
-fn start_behind(state: State) -> u32
-    requires { state.run.told.number ≡ 0 → Fits state }
-{
-    if state.run.told.number != 0 {
-        return REFUSED;
+    match brought(net, estimate, arrival) {
+        Ok(state) => withdraw_behind(state, choices, count),
+        Err(_) => REFUSED,
     }
-    placed(ready::ready(state))
 }
 
-// Starts again and again.
-fn start_times(net: &[u8], estimate: &[u8], count: usize) -> State
-    ensures { result.run.told.number ≡ 0 → Fits result }
+// Starts again and again: the last answer.
+fn start_times(net: &[u8], estimate: &[u8], count: usize) -> Result<State, Refusal>
+    ensures { IfOk result Fits }
 {
     let mut last = starts::start(net, estimate);
-    let mut i: usize = 1;
-    while i < count {
+    for _ in 1..count {
         last = starts::start(net, estimate);
-        i += 1;
     }
     last
 }
@@ -428,5 +331,8 @@ fn start_times(net: &[u8], estimate: &[u8], count: usize) -> State
 // Starts, at least once; then what is ready.
 #[unsafe(no_mangle)]
 pub extern "C" fn salmurkki_start(net: &[u8], estimate: &[u8], count: usize) -> u32 {
-    start_behind(start_times(net, estimate, count))
+    match start_times(net, estimate, count) {
+        Ok(state) => placed(ready::ready(&state)),
+        Err(_) => REFUSED,
+    }
 }

@@ -14,12 +14,10 @@ use Rattle.klaim.specs.Analysis.{Verdict, accepted, verdict}
 use Rattle.klaim.specs.Report.{report}
 use Rattle.klaim.specs.Reader.{Answer, refused, gives, read_both}
 use Rattle.klaim.specs.Listing.{numeral, row, home_count, used_count, list_verdict, list_read, before, net_part, estimate_part, listing}
-use Rattle.tables.specs.View.{net_view, estimate_view}
 use Rattle.writer.specs.Wrote.{Wrote}
 use Rattle.rows.proofs.Rows.{length_row}
 use Rattle.klaim.proofs.Numeral.{numeral_short}
 use Rattle.klaim.specs.Rows.{text}
-use Rattle.usable.specs.Rights.{Rights}
 use Rattle.worlds.specs.declared.World.{World}
 use Rattle.worlds.specs.World.{world_view}
 use Rattle.worlds.proofs.Rows.{both_row}
@@ -42,16 +40,8 @@ pub broken_fits : (k n : ℕ) → n < 100000 → 0 + length (row "broken" ((k �
 unfolding text
 broken_fits k n h = omega (arith, length_row "broken" ((k ∷ []) ∷ numeral n ∷ []), numeral_short 4 n h)
 
-pub rights_world : (w : World) → Rights (world_view w) w.net.roots w.net.nroots w.net.lines w.net.nlines w.net.boxes w.estimate.binds w.estimate.hold
-unfolding world_view net_view estimate_view
-rights_world w = record { roots_is = refl; lines_is = refl; boxes_is = refl; binds_is = refl; hold_is = refl }
-
-pub homes_world : (w : World) → (world_view w).net.homes ≡ w.net.homes
-unfolding world_view net_view
-homes_world w = refl
-
 pub size_world : (w : World) → (world_view w).net.size ≡ w.net.size
-unfolding world_view net_view
+unfolding world_view
 size_world w = refl
 
 -- the listing of an accepted net, from its tables

@@ -41,10 +41,8 @@ fn put_rows_v(out: &mut [u8], at: usize, report: &[u8; 1024]) -> usize
 {
     let table = writer::letter_table();
     let mut next = at;
-    let mut i = 0;
-    while i < REPORT {
+    for i in 0..REPORT {
         next = put_entry(out, next, &table, i, report[i]);
-        i += 1;
     }
     next
 }
@@ -70,10 +68,8 @@ fn put_rows_u<'a>(
     ensures { (result ≤ at + 19 * n) × Wrote out.old out.new at (lines_u held.now used.now n) result }
 {
     let mut next = at;
-    let mut s: u8 = 0;
-    while s < n {
+    for s in 0..n {
         next = put_line(out, next, s, held[s as usize], used[s as usize]);
-        s += 1;
     }
     next
 }
@@ -104,23 +100,14 @@ fn used(w: World) -> [u32; 32]
     requires { WellFormed w }
     ensures { result ≡ table 32 (used_count (world_view w)) }
 {
-    usable::used_counts(
-        &w.net.homes,
-        &w.net.roots,
-        w.net.nroots,
-        &w.net.lines,
-        w.net.nlines,
-        &w.net.boxes,
-        &w.estimate.binds,
-        &w.estimate.hold,
-    )
+    usable::used_counts(&w.net, &w.estimate)
 }
 
 // The counts of the rights that each site holds.
 fn held(w: World) -> [u32; 32]
     ensures { result ≡ table 32 (home_count (world_view w).net) }
 {
-    counts::home_counts(&w.net.homes)
+    counts::home_counts(&w.net)
 }
 
 // The listing of a net that is accepted.
@@ -146,7 +133,7 @@ fn put_refusal(out: &mut [u8], number: u8, row: usize) -> usize
 }
 
 // The row of a broken rule at a T row or a Q line.
-fn put_break(out: &mut [u8], kind: u8, number: u16) -> usize
+fn put_break(out: &mut [u8], kind: u8, number: u8) -> usize
     requires { 17006 ≤ length out.old }
     ensures wrote { Wrote out.old out.new 0 (word_row "broken" ((kind ∷ []) ∷ numeral number ∷ [])) result }
     ensures upper_bound { result ≤ 17006 }

@@ -46,14 +46,12 @@ fn parted_at(input: &[u8], i: usize) -> bool
 pub fn before(input: &[u8]) -> usize
     ensures { result ≡ Listing.before true input.now }
 {
-    let mut i = 0;
-    while i < input.len() {
+    for i in 0..input.len() {
         if parted_at(input, i) {
             return i;
         }
-        i += 1;
     }
-    i
+    input.len()
 }
 
 // Where the estimate begins, n bytes standing before the first row `.`.

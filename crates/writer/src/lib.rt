@@ -23,12 +23,9 @@ pub fn put_text(out: &mut [u8], at: usize, text: &[u8]) -> usize
     requires { at + length text.now ≤ length out.old }
     ensures { Wrote out.old out.new at text.now result }
 {
-    let mut i = 0;
-    while i < text.len() {
-        out[at + i] = text[i];
-        i += 1;
-    }
-    at + i
+    let end = at + text.len();
+    out[at..end].copy_from_slice(text);
+    end
 }
 
 // The digit of a number below ten.
@@ -99,16 +96,14 @@ pub fn put_letters_from(out: &mut [u8], at: usize, table: &LetterTable, rights: 
     ensures { Wrote out.old out.new at (letters rights) result }
 {
     let set = rights as usize % SETS;
-    let mut i = 0;
-    while i < RIGHTS {
+    for i in 0..RIGHTS {
         let letter = table[set][i];
         if letter == DOT {
             return at + i;
         }
         out[at + i] = letter;
-        i += 1;
     }
-    at + i
+    at + RIGHTS
 }
 
 // The letters of a set of rights, in the order `oirea`.

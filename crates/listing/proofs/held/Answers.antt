@@ -1,5 +1,6 @@
-use Rattle.listing.proofs.Reading.{homes_world}
+use Rattle.worlds.specs.World.{world_view}
 use Rattle.listing.proofs.held.Goals as goal
 
 pub returns : goal.returns
-returns c = c.home_counts.ensures _ (homes_world _)
+unfolding world_view
+returns c = c.home_counts.ensures

@@ -1,4 +1,6 @@
-use mathlib.Core.Path.{sym, ◌∙◌}
+use mathlib.Core.Path.{◌≡◌, sym, ◌∙◌}
+use native.Mathlib.Omega.{arith}
+use lib.ListN.{length}
 use Rattle.parts.proofs.Parts.{searched_none, searched_more, searched_found, searched_all}
 use Rattle.parts.proofs.before.Goals as goal
 
@@ -6,10 +8,12 @@ pub loop-i-init : goal.loop-i-init
 loop-i-init c = searched_none _
 
 pub returns-then-parted_at : goal.returns-then-parted_at
-returns-then-parted_at c = searched_found c.loop-i.invariant c.loop-i-test.true (sym c.parted_at.ensures ∙ c.if-parted_at.true)
+returns-then-parted_at c = searched_found c.loop-i.invariant (omega arith) (sym c.parted_at.ensures ∙ c.if-parted_at.true)
 
 pub loop-i-preserved : goal.loop-i-preserved
-loop-i-preserved c = searched_more c.loop-i.invariant c.loop-i-test.true (sym c.parted_at.ensures ∙ c.if-parted_at.false)
+loop-i-preserved c = searched_more c.loop-i.invariant (omega arith) (sym c.parted_at.ensures ∙ c.if-parted_at.false)
 
 pub returns : goal.returns
-returns c = searched_all c.loop-i.invariant c.loop-i-test.false
+returns c =
+    let e : length c.args.input.now ≡ c.loop-i.i = omega arith in
+    e ∙ searched_all c.loop-i.invariant (omega arith)

@@ -1,11 +1,6 @@
-use Prim.Native.Nat.{◌-◌}
-use lib.ListN.{length}
 use Rattle.parts.proofs.Parts.{Searched}
 use Rattle.parts.proofs.before.Given as goal
 
 -- no row `.` stands before place i
 abbrev pub invariant-loop-i : goal.invariant-loop-i
 invariant-loop-i l = Searched l.input l.i
-
-abbrev pub decreases-loop-i : goal.decreases-loop-i
-decreases-loop-i l = length l.input - l.i

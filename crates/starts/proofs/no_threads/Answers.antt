@@ -4,4 +4,4 @@ use Rattle.starts.proofs.no_threads.Goals as goal
 
 pub returns : goal.returns
 unfolding threads_view
-returns c = (refl, refl)
+returns c = (refl, refl, refl)

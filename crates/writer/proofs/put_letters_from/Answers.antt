@@ -30,7 +30,7 @@ returns-then-letter-eq-DOT c =
 pub overflow_add-out : goal.overflow_add-out
 overflow_add-out c = let l =
     (let the_goes_on : c.loop-i.i < length (letters c.args.rights) = let i = c.loop-i.i in
-    letter_goes_on c.args.rights i c.loop-i-test.true (λ e. c.if-letter-eq-DOT.false ((let the_read : (i : ℕ) → get_or (get_or c.args.table.now (c.args.rights % set_count) []) i 0 ≡ get_or (padded (letters c.args.rights)) i 0 = λ i. let set = c.args.rights % set_count in
+    letter_goes_on c.args.rights i (omega arith) (λ e. c.if-letter-eq-DOT.false ((let the_read : (i : ℕ) → get_or (get_or c.args.table.now (c.args.rights % set_count) []) i 0 ≡ get_or (padded (letters c.args.rights)) i 0 = λ i. let set = c.args.rights % set_count in
     ap (λ (t : List (List ℕ)). get_or (get_or t set []) i 0) c.requires.0
     ∙ ap (λ (e : List ℕ). get_or e i 0) (entry_right c.args.rights) in the_read) i ∙ e)) in the_goes_on) in search (rules, l)
 
@@ -39,7 +39,7 @@ bounds-out-at c =
     omega (
       arith,
       (let the_goes_on : c.loop-i.i < length (letters c.args.rights) = let i = c.loop-i.i in
-          letter_goes_on c.args.rights i c.loop-i-test.true (λ e. c.if-letter-eq-DOT.false ((let the_read : (i : ℕ) → get_or (get_or c.args.table.now (c.args.rights % set_count) []) i 0 ≡ get_or (padded (letters c.args.rights)) i 0 = λ i. let set = c.args.rights % set_count in
+          letter_goes_on c.args.rights i (omega arith) (λ e. c.if-letter-eq-DOT.false ((let the_read : (i : ℕ) → get_or (get_or c.args.table.now (c.args.rights % set_count) []) i 0 ≡ get_or (padded (letters c.args.rights)) i 0 = λ i. let set = c.args.rights % set_count in
           ap (λ (t : List (List ℕ)). get_or (get_or t set []) i 0) c.requires.0
           ∙ ap (λ (e : List ℕ). get_or e i 0) (entry_right c.args.rights) in the_read) i ∙ e)) in the_goes_on),
       wrote_long c.loop-i.invariant.1,
@@ -52,17 +52,17 @@ loop-i-preserved c =
       omega (
         arith,
         (let the_goes_on : c.loop-i.i < length (letters c.args.rights) = let i = c.loop-i.i in
-            letter_goes_on c.args.rights i c.loop-i-test.true (λ e. c.if-letter-eq-DOT.false ((let the_read : (i : ℕ) → get_or (get_or c.args.table.now (c.args.rights % set_count) []) i 0 ≡ get_or (padded (letters c.args.rights)) i 0 = λ i. let set = c.args.rights % set_count in
+            letter_goes_on c.args.rights i (omega arith) (λ e. c.if-letter-eq-DOT.false ((let the_read : (i : ℕ) → get_or (get_or c.args.table.now (c.args.rights % set_count) []) i 0 ≡ get_or (padded (letters c.args.rights)) i 0 = λ i. let set = c.args.rights % set_count in
             ap (λ (t : List (List ℕ)). get_or (get_or t set []) i 0) c.requires.0
             ∙ ap (λ (e : List ℕ). get_or e i 0) (entry_right c.args.rights) in the_read) i ∙ e)) in the_goes_on),
       ),
       rw ((let the_read : (i : ℕ) → get_or (get_or c.args.table.now (c.args.rights % set_count) []) i 0 ≡ get_or (padded (letters c.args.rights)) i 0 = λ i. let set = c.args.rights % set_count in
           ap (λ (t : List (List ℕ)). get_or (get_or t set []) i 0) c.requires.0
           ∙ ap (λ (e : List ℕ). get_or e i 0) (entry_right c.args.rights) in the_read) l.i ∙ at_letter xs l.i ((let the_goes_on : c.loop-i.i < length (letters c.args.rights) = let i = c.loop-i.i in
-          letter_goes_on c.args.rights i c.loop-i-test.true (λ e. c.if-letter-eq-DOT.false ((let the_read : (i : ℕ) → get_or (get_or c.args.table.now (c.args.rights % set_count) []) i 0 ≡ get_or (padded (letters c.args.rights)) i 0 = λ i. let set = c.args.rights % set_count in
+          letter_goes_on c.args.rights i (omega arith) (λ e. c.if-letter-eq-DOT.false ((let the_read : (i : ℕ) → get_or (get_or c.args.table.now (c.args.rights % set_count) []) i 0 ≡ get_or (padded (letters c.args.rights)) i 0 = λ i. let set = c.args.rights % set_count in
           ap (λ (t : List (List ℕ)). get_or (get_or t set []) i 0) c.requires.0
           ∙ ap (λ (e : List ℕ). get_or e i 0) (entry_right c.args.rights) in the_read) i ∙ e)) in the_goes_on))) (wrote_more xs l.i ((let the_goes_on : c.loop-i.i < length (letters c.args.rights) = let i = c.loop-i.i in
-          letter_goes_on c.args.rights i c.loop-i-test.true (λ e. c.if-letter-eq-DOT.false ((let the_read : (i : ℕ) → get_or (get_or c.args.table.now (c.args.rights % set_count) []) i 0 ≡ get_or (padded (letters c.args.rights)) i 0 = λ i. let set = c.args.rights % set_count in
+          letter_goes_on c.args.rights i (omega arith) (λ e. c.if-letter-eq-DOT.false ((let the_read : (i : ℕ) → get_or (get_or c.args.table.now (c.args.rights % set_count) []) i 0 ≡ get_or (padded (letters c.args.rights)) i 0 = λ i. let set = c.args.rights % set_count in
           ap (λ (t : List (List ℕ)). get_or (get_or t set []) i 0) c.requires.0
           ∙ ap (λ (e : List ℕ). get_or e i 0) (entry_right c.args.rights) in the_read) i ∙ e)) in the_goes_on)) (search rules) l.invariant.1),
     )
@@ -73,4 +73,5 @@ shape_of-out c = wrote_long c.loop-i.invariant.1
 pub returns : goal.returns
 returns c =
     let r = c.args.rights in
-    wrote_as (take_all c.loop-i.i (letters r) (omega (arith, letters_short r))) c.loop-i.invariant.1
+    let e : c.loop-i.i ≡ 5 = omega arith in
+    wrote_as (take_all 5 (letters r) (omega (arith, letters_short r))) (rw e at c.loop-i.invariant.1)
