@@ -23,7 +23,10 @@ use Rattle.plan.specs.Move.{Plannable}
 use Rattle.plan.proofs.Fitted.{thread_here}
 use Rattle.ready.specs.Runs.{runs}
 use Rattle.ready.proofs.Runnable.{runnable_is}
-use lib.ListN.{get_or}
+use lib.ListN.{length, get_or, take}
+use lib.Seq.{length-take-le, get_or-take}
+use native.Mathlib.Omega.{arith}
+use mathlib.Core.List.{List}
 
 -- the test for the line that a thread stands on, from that for its action
 pub runs_at : {st : State} {th : Thread} → Plannable st th → {r : Action} → Decoded st.lines.bytes th.line r → {x : Action} → r ≡ x → {b : Bool} → b ≡ runs (state_view st) (thread_view th) (action_line x (field_bytes st.lines.bytes th.line)) → b ≡ runs (state_view st) (thread_view th) (line_at (state_view st).lines th.line)
@@ -37,6 +40,18 @@ runs_at {st} {th} p {r} d {x} e h =
 -- thread k can make a bare step where the test says so
 pub runnable_at : {st : State} (f : Fits st) (k : ℕ) → k < st.threads.count → {b : Bool} → b ≡ runs (state_view st) (thread_view (get_or st.threads.items k no_thread)) (line_at (state_view st).lines (get_or st.threads.items k no_thread).line) → runnable (state_view st) k ≡ b
 runnable_at {st} f k h e = runnable_is (state_view st) f.invariant k (thread_view (get_or st.threads.items k no_thread)) (thread_here f k h) ∙ sym e
+
+-- the threads that are lent
+module _ (st : State) {ts : List Thread} where
+  pub lent_count : Fits st → ts ≡ take st.threads.count st.threads.items → length ts ≡ st.threads.count
+  lent_count f e = ap length e ∙ length-take-le st.threads.count st.threads.items (omega (arith, f.threads_long, f.threads_few))
+
+  pub lent_thread : ts ≡ take st.threads.count st.threads.items → (k : ℕ) → k < st.threads.count → get_or ts k no_thread ≡ get_or st.threads.items k no_thread
+  lent_thread e k h = ap (λ (xs : List Thread). get_or xs k no_thread) e ∙ get_or-take st.threads.count st.threads.items k no_thread h
+
+-- a lent thread can make a bare step where the test says so
+pub lent_runnable : {st : State} {ts : List Thread} (f : Fits st) → ts ≡ take st.threads.count st.threads.items → (k : ℕ) → k < st.threads.count → {b : Bool} → b ≡ runs (state_view st) (thread_view (get_or ts k no_thread)) (line_at (state_view st).lines (get_or ts k no_thread).line) → runnable (state_view st) k ≡ b
+lent_runnable {st} {ts} f e k h q = runnable_at f k h (q ∙ ap (λ (th : Thread). runs (state_view st) (thread_view th) (line_at (state_view st).lines th.line)) (lent_thread st e k h))
 
 -- the two tests of an arrival, that for room first
 pub door_room : (p o : Bool) → o ≡ true → {b : Bool} → b ≡ p → b ≡ (p & o)

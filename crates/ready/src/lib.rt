@@ -96,17 +96,25 @@ fn can_step(state: &State, th: &Thread) -> bool
     }
 }
 
+// The lowest place of a lent thread that can make a bare step.
+fn first(state: &State, threads: &[Thread]) -> Option<u8>
+    requires { Fits state.now × (threads.now ≡ take state.now.threads.count state.now.threads.items) }
+    ensures { option_of (λ (k : ℕ). k) result ≡ ready_of (state_view state.now) }
+{
+    for k in 0..threads.len() {
+        if can_step(state, &threads[k]) {
+            return Some(k as u8);
+        }
+    }
+    None
+}
+
 // The lowest place of a thread where some tuple and some arrival make a bare step perform.
 pub fn ready(state: &State) -> Option<u8>
     requires { Fits state.now }
     ensures { option_of (λ (k : ℕ). k) result ≡ ready_of (state_view state.now) }
 {
-    for k in 0..state.threads.count {
-        if can_step(state, &state.threads.items[k]) {
-            return Some(k as u8);
-        }
-    }
-    None
+    first(state, &state.threads.items[..state.threads.count])
 }
 
 // The door called by itself: whether the arrival whose root is line r passes at site l under sandbox d. 24 for the root, then 4 for

@@ -24,8 +24,8 @@ module _ {F B : Type 0} (g : Mut F (ℕ × Unit {0}) B) (f : F) (h : ℕ → B) 
       let rest : IsFromFnResultFrom g f ys (i + 1) k = subst (λ (p : F). IsFromFnResultFrom g p ys (i + 1) k) one.0 w.4 in
       let later : i + 1 ≤ j → get_or ys j d ≡ h j = λ q. from_on ys a k (i + 1) (omega arith) rest j d q m in
       elim (dec_le j i) [
-        yes q ↦ let r : j ≡ i = omega arith in rw r (w.2.1 d ∙ one.1)
-      | no q ↦ later (omega arith)
+        | yes q ↦ let r : j ≡ i = omega arith in rw r (w.2.1 d ∙ one.1)
+        | no q ↦ later (omega arith)
       ]
 
   pub from_fn_table : {ys : List B} → B → Answers → IsFromFnResult g f ys n → ys ≡ table n h
