@@ -2,18 +2,15 @@
 //! the state at the end.
 #![tactic(auto)]
 
-ghost use Rattle.std.specs.Prelude.{◌≡◌, false, ◌≤◌, length};
+ghost use Rattle.std.specs.Prelude.{◌≡◌, false, ◌≤◌, length, IfOk};
 ghost use Rattle.std.specs.declared.io.Error.{Error};
 ghost use Rattle.script_rows.specs.Window.{Within};
 ghost use Rattle.state.specs.Fits.{Fits};
-ghost use Rattle.step.specs.Stepped.{Stepped};
-ghost use Rattle.brings.specs.Brought.{Brought};
-ghost use Rattle.withdraws.specs.Withdrawn.{Withdrawn};
 
-use commands::{Choice, Command};
-use ready::{DoorAnswer, ReadyAnswer};
+use commands::Command;
+use klaim::{Reason, Refusal};
 use script_rows::{Find, Window};
-use state::{State, Told};
+use state::{Event, State};
 use std::io;
 use std::io::{Read, Write};
 use streams::Failure;
@@ -24,81 +21,48 @@ const HEAD_LIMIT: usize = 1048576;
 // A buffer that holds a byte more than the longest head and the longest command row, so that longer ones are seen to be longer.
 pub const ROOM: usize = HEAD_LIMIT + 1;
 
-// The row for what a step did.
-fn say_step<W: Write>(output: &mut W, told: Told) -> io::Result<()> {
-    if told.number != 0 {
-        return answers::say_refused(output, told.number, told.row);
-    }
-    if told.event == state::PERFORMED {
-        return answers::say_performed(output, told.site, told.target, told.right);
-    }
-    answers::say(output, b"silent\n")
+// The row for a refusal.
+fn say_refusal<W: Write>(output: &mut W, refusal: Refusal) -> io::Result<()> {
+    answers::say_refused(output, refusal.why.number(), refusal.row)
 }
 
-// The row for what a bring or a withdrawal did: its word, and the line of the arrival's root.
-fn say_root<W: Write>(output: &mut W, word: &[u8], told: Told) -> io::Result<()>
-    requires { length word.now ≤ 16 }
-{
-    if told.number != 0 {
-        return answers::say_refused(output, told.number, told.row);
+// The row for what a bring, a withdrawal or a step did.
+fn say_event<W: Write>(output: &mut W, event: Event) -> io::Result<()> {
+    match event {
+        Event::Brought(root) => answers::say_count(output, b"brought,", usize::from(root)),
+        Event::Withdrawn(root) => answers::say_count(output, b"withdrawn,", usize::from(root)),
+        Event::Silent => answers::say(output, b"silent\n"),
+        Event::Performed {
+            site,
+            target,
+            right,
+        } => answers::say_performed(output, site, target, right),
     }
-    answers::say_count(output, word, usize::from(told.site))
+}
+
+// The row for what a call on the state answered.
+fn say_told<W: Write>(output: &mut W, told: Result<Event, Refusal>) -> io::Result<()> {
+    match told {
+        Ok(event) => say_event(output, event),
+        Err(refusal) => say_refusal(output, refusal),
+    }
 }
 
 // The row for the door's answer.
-fn say_door<W: Write>(output: &mut W, answer: DoorAnswer) -> io::Result<()> {
+fn say_door<W: Write>(output: &mut W, answer: Result<bool, Refusal>) -> io::Result<()> {
     match answer {
-        DoorAnswer::Passes => answers::say(output, b"passes\n"),
-        DoorAnswer::Closed => answers::say(output, b"closed\n"),
-        DoorAnswer::Refused(number) => answers::say_refused(output, number, 0),
+        Ok(true) => answers::say(output, b"passes\n"),
+        Ok(false) => answers::say(output, b"closed\n"),
+        Err(refusal) => say_refusal(output, refusal),
     }
 }
 
 // The row for what is ready.
-fn say_ready<W: Write>(output: &mut W, answer: ReadyAnswer) -> io::Result<()> {
+fn say_ready<W: Write>(output: &mut W, answer: Option<u8>) -> io::Result<()> {
     match answer {
-        ReadyAnswer::Place(k) => answers::say_count(output, b"ready,", usize::from(k)),
-        ReadyAnswer::None => answers::say(output, b"ready,none\n"),
+        Some(k) => answers::say_count(output, b"ready,", usize::from(k)),
+        None => answers::say(output, b"ready,none\n"),
     }
-}
-
-// A step, guarded or bare.
-fn act(state: &mut State, guarded: bool, choice: Choice)
-    requires { Fits state.old }
-    ensures { Stepped guarded state.old choice.thread choice.tuple choice.root state.new }
-{
-    state.run = step::step(
-        &state.net.homes,
-        &state.net.boxes,
-        &state.estimate.binds,
-        &state.lines,
-        state.nlines,
-        &state.arrivals,
-        state.narrivals,
-        &state.sound,
-        &mut state.tuples,
-        state.run,
-        guarded,
-        choice.thread,
-        choice.tuple,
-        choice.root,
-    );
-}
-
-// An arrival's rows brought. The calls by value have functions of their own: where one is called, room for a state is cleared.
-fn bring(state: &mut State, rows: &[u8])
-    requires { Fits state.old }
-    ensures { Brought state.old rows.now state.new }
-{
-    *state = brings::bring(*state, rows);
-}
-
-// The newest arrival sent away.
-fn withdraw(state: &mut State)
-    requires { Fits state.old }
-    ensures { Withdrawn state.old state.new }
-{
-    *state = withdraws::withdraw(*state);
 }
 
 // Does what a command says to the state; `rows` are those of a `bring`.
@@ -107,31 +71,16 @@ fn obey(state: &mut State, command: Command, rows: &[u8])
     ensures { Fits state.new }
 {
     match command {
-        Command::Step(choice) => act(state, false, choice),
-        Command::Guarded(choice) => act(state, true, choice),
-        Command::Bring => bring(state, rows),
-        Command::Withdraw => withdraw(state),
+        Command::Step(choice) => {
+            step::step(state, false, choice.thread, choice.tuple, choice.root);
+        }
+        Command::Guarded(choice) => {
+            step::step(state, true, choice.thread, choice.tuple, choice.root);
+        }
+        Command::Bring => brings::bring(state, rows),
+        Command::Withdraw => withdraws::withdraw(state),
         Command::Door { .. } | Command::Ready | Command::Overlong | Command::Bad => {}
     }
-}
-
-// The door's answer for the arrival whose root is this line, at a site under a sandbox.
-fn door(state: &State, root: usize, site: usize, sandbox: usize) -> DoorAnswer
-    requires { Fits state.now }
-{
-    ready::door(
-        state.net.size,
-        &state.net.boxes,
-        &state.estimate.binds,
-        &state.lines,
-        state.nlines,
-        &state.arrivals,
-        state.narrivals,
-        &state.sound,
-        root,
-        site,
-        sandbox,
-    )
 }
 
 // The row for a command, behind which the state is this one.
@@ -139,16 +88,16 @@ fn respond<W: Write>(output: &mut W, state: &State, command: Command) -> io::Res
     requires { Fits state.now }
 {
     match command {
-        Command::Step(_) | Command::Guarded(_) => say_step(output, state.run.told),
-        Command::Bring => say_root(output, b"brought,", state.run.told),
-        Command::Withdraw => say_root(output, b"withdrawn,", state.run.told),
+        Command::Step(_) | Command::Guarded(_) | Command::Bring | Command::Withdraw => {
+            say_told(output, state.told)
+        }
         Command::Door {
             root,
             site,
             sandbox,
-        } => say_door(output, door(state, root, site, sandbox)),
-        Command::Ready => say_ready(output, ready::ready(*state)),
-        Command::Overlong => answers::say_refused(output, 2, 0),
+        } => say_door(output, ready::door(state, root, site, sandbox)),
+        Command::Ready => say_ready(output, ready::ready(state)),
+        Command::Overlong => say_refusal(output, Refusal::from(Reason::Limit)),
         Command::Bad => answers::say(output, b"bad command\n"),
     }
 }
@@ -201,29 +150,30 @@ fn carry_on<R: Read, W: Write>(
     output: &mut W,
     buf: &mut [u8],
     head: Window,
-    state: State,
+    begun: Result<State, Refusal>,
 ) -> Result<(), Failure>
-    requires { Within head buf.old × (state.run.told.number ≡ 0 → Fits state) }
+    requires { Within head buf.old × IfOk begun Fits }
 {
-    let told = state.run.told;
-    if told.number != 0 {
-        return answers::say_refused(output, told.number, told.row).map_err(Failure::Unwritten);
+    match begun {
+        Ok(state) => {
+            answers::say(output, b"started\n").map_err(Failure::Unwritten)?;
+            run_all(input, output, buf, head, state)
+        }
+        Err(refusal) => say_refusal(output, refusal).map_err(Failure::Unwritten),
     }
-    answers::say(output, b"started\n").map_err(Failure::Unwritten)?;
-    run_all(input, output, buf, head, state)
 }
 
 // The state that begins from a net, and an estimate up to a row `.`.
-fn begin_behind(net: &[u8], rest: &[u8]) -> State
-    ensures { result.run.told.number ≡ 0 → Fits result }
+fn begin_behind(net: &[u8], rest: &[u8]) -> Result<State, Refusal>
+    ensures { IfOk result Fits }
 {
     let n = parts::before(rest);
     starts::start(net, &rest[..n])
 }
 
 // The state that begins from a head: net, a row `.`, estimate, a row `.`.
-fn begin(head: &[u8]) -> State
-    ensures { result.run.told.number ≡ 0 → Fits result }
+fn begin(head: &[u8]) -> Result<State, Refusal>
+    ensures { IfOk result Fits }
 {
     let n = parts::before(head);
     let from = parts::behind(head, n);
@@ -263,8 +213,8 @@ pub fn run<R: Read, W: Write>(
         return Err(Failure::Unread(why));
     }
     if is_long(head) {
-        return answers::say_refused(output, 2, 0).map_err(Failure::Unwritten);
+        return say_refusal(output, Refusal::from(Reason::Limit)).map_err(Failure::Unwritten);
     }
-    let state = begin(&buf[head.from..head.next]);
-    carry_on(input, output, buf, head, state)
+    let begun = begin(&buf[head.from..head.next]);
+    carry_on(input, output, buf, head, begun)
 }
