@@ -27,7 +27,7 @@ PLACES = [
     ("threads", "pub struct Thread {"),
     ("state", "pub threads: [Thread; 64],"),
     ("report", "let mut bytes = [0u8; 1024];"),
-    ("checker", "fn write_report("),
+    ("checker", "buffer[..REPORT].copy_from_slice("),
     ("ready", "fn first("),
     ("ready", "fn able("),
     ("ready", "fn lowest("),

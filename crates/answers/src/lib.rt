@@ -19,7 +19,7 @@ fn narrow(n: usize) -> u32
     u32::try_from(n).unwrap_or(u32::MAX)
 }
 
-// A number in decimal.
+// A number in decimal. A format, `{n}`, could fail for want of room, and says nothing of what stays as it was.
 pub fn put_count(out: &mut [u8], at: usize, n: usize) -> usize
     requires { at + 10 ≤ length out.old }
     ensures place { (at ≤ result) × (result ≤ at + 10) }

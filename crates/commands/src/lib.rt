@@ -1,11 +1,10 @@
 //! The commands of an engine script, as they come.
 #![tactic(auto)]
 
-ghost use Rattle.std.specs.Prelude.{◌≡◌, None, ◌<◌, ◌≤◌, length};
-ghost use Rattle.script_rows.specs.Window.{Within};
+ghost use Rattle.std.specs.Prelude.{◌≡◌, None, ◌<◌, ◌≤◌};
 ghost use Rattle.commands.specs.Asked.{Stops};
 
-use script_rows::{Find, Window};
+use script_rows::{Find, Incoming, Window};
 use std::io;
 use std::io::Read;
 
@@ -93,15 +92,11 @@ fn at_end(w: Window) -> Option<Command> {
 }
 
 // The command of a row that is there. Longer than the limit is none.
-fn of_row(buf: &[u8], w: Window) -> Command
-    requires { Within w buf.now × (w.row < w.next) }
-{
-    let row = w.row;
-    let end = w.next - 1;
-    if ROW_LIMIT < end - row {
+fn of_row(row: &[u8]) -> Command {
+    if ROW_LIMIT < row.len() {
         return Command::Bad;
     }
-    read(&buf[row..end])
+    read(row)
 }
 
 // A command, or none at the end of the input, unless a read failed.
@@ -116,16 +111,16 @@ fn unless_failed(w: Window, command: Option<Command>) -> io::Result<Option<Comma
 }
 
 // The command of what was found.
-fn of_found(buf: &[u8], w: Window) -> io::Result<Option<Command>>
-    requires { Within w buf.now × (w.found ≡ Find.Row → w.row < w.next) }
-    ensures { Stops w result }
+fn of_found<R: Read>(incoming: &Incoming<'_, R>) -> io::Result<Option<Command>>
+    requires { incoming.now.window.found ≡ Find.Row → incoming.now.window.row < incoming.now.window.next }
+    ensures { Stops incoming.now.window result }
 {
-    let command = match w.found {
-        Find::Row => Some(of_row(buf, w)),
-        Find::End => at_end(w),
+    let command = match incoming.window.found {
+        Find::Row => Some(of_row(incoming.row())),
+        Find::End => at_end(incoming.window),
         _ => Some(Command::Bad),
     };
-    unless_failed(w, command)
+    unless_failed(incoming.window, command)
 }
 
 // A `bring` behind its rows: those that stand from `from` to `row`.
@@ -140,37 +135,26 @@ fn brought(w: Window) -> io::Result<Option<Command>>
 }
 
 // A `bring` with its rows, up to the next row `.` or the end of the input.
-fn with_rows<R: Read>(
-    input: &mut R,
-    buf: &mut [u8],
-    window: &mut Window,
-) -> io::Result<Option<Command>>
-    requires { Within window.old buf.old }
-    ensures within { Within window.new buf.new }
-    ensures stops { Stops window.new result }
+fn with_rows<R: Read>(incoming: &mut Incoming<'_, R>) -> io::Result<Option<Command>>
+    ensures { Stops incoming.new.window result }
 {
-    *window = window.passed().dot(input, buf);
-    let Find::Full = window.found else {
-        return brought(*window);
+    incoming.pass();
+    incoming.dot();
+    let Find::Full = incoming.window.found else {
+        return brought(incoming.window);
     };
-    *window = window.dot_alone(input, buf);
-    unless_failed(*window, Some(Command::Overlong))
+    incoming.dot_alone();
+    unless_failed(incoming.window, Some(Command::Overlong))
 }
 
-// What the input asks next, none at its end; the rows of a `bring` stand from `from` to `row`.
-pub fn next<R: Read>(
-    input: &mut R,
-    buf: &mut [u8],
-    window: &mut Window,
-) -> io::Result<Option<Command>>
-    requires { Within window.old buf.old }
-    ensures within { Within window.new buf.new }
-    ensures stops { Stops window.new result }
+// What the input asks next, none at its end; the rows of a `bring` are those that are kept in front of the row `.`.
+pub fn next<R: Read>(incoming: &mut Incoming<'_, R>) -> io::Result<Option<Command>>
+    ensures { Stops incoming.new.window result }
 {
-    *window = window.row_alone(input, buf);
-    let asked = of_found(buf, *window);
+    incoming.row_alone();
+    let asked = of_found(incoming);
     if let Ok(Some(Command::Bring)) = asked {
-        return with_rows(input, buf, window);
+        return with_rows(incoming);
     }
     asked
 }

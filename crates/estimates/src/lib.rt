@@ -35,19 +35,6 @@ fn is_own(group: Group) -> bool
 }
 
 impl EstimateReader {
-    // Nothing is read; n is that of the net.
-    fn new(n: u8) -> EstimateReader
-        ensures { EstimateHolds (an_estimate n) [] result }
-    {
-        EstimateReader {
-            binds: [0; 32],
-            stand: [0; 1536],
-            keys: [0; 256],
-            hold: [0; 1024],
-            tally: Tally::start(n),
-        }
-    }
-
     // Whether no row of this group may follow.
     fn is_full(&self, group: Group) -> bool
         ensures { result ≡ full_of (group_number group) self.now.tally }
@@ -137,7 +124,14 @@ impl Reader for EstimateReader {
 pub fn read_estimate(n: u8, s: &[u8]) -> Result<Estimate, Refusal>
     ensures { answer_of estimate_view result ≡ read_estimate n s.now }
 {
-    let mut reader = EstimateReader::new(n);
+    // Made in its place, as a net's.
+    let mut reader = EstimateReader {
+        binds: [0; 32],
+        stand: [0; 1536],
+        keys: [0; 256],
+        hold: [0; 1024],
+        tally: Tally::start(n),
+    };
     scan::read(&mut reader, s)?;
     Ok(reader.finish())
 }

@@ -44,6 +44,7 @@ where
     F: Fn(&mut W, &mut [u8]) -> Result<(), Failure>,
     requires { F.IsAlwaysCallable work }
 {
+    // Counted by hand, since each case says how far the next one is.
     let mut at: usize = 0;
     let mut k: usize = 0;
     while at < input.len() {

@@ -154,12 +154,7 @@ fn low_children(line: &Line) -> bool
 fn low_pair(pair: &Pair, n: u16) -> bool
     ensures { result ≡ all (λ s. ltb s n) (pair.now.from ∷ pair.now.to ∷ []) }
 {
-    let s = pair.from;
-    let t = pair.to;
-    if s < n {
-        return t < n;
-    }
-    false
+    pair.from < n && pair.to < n
 }
 
 // Whether the site of a D row is below n, if it has one.

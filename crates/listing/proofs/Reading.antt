@@ -78,10 +78,9 @@ module _ (input : List ℕ) where
       ap list_read (e ∙ ap₂ read_both p q)
       ∙ sym (ap (λ (b : Bool). elim b [ true ↦ list_read (refused 2 0) | false ↦ list_read (read_both (net_part input) (estimate_part input)) ]) (le-ltb input_limit (length input) h))
 
-  -- what was read is well-formed, or its refusal has a row of the input
-  pub read_shape : (r : Result World Refusal) (net estimate : List ℕ) → length input ≤ input_limit → length net ≤ length input → length estimate ≤ length input → answer_of world_view r ≡ read_both net estimate → MatchResult r WellFormed (λ e. e.row < 100000)
-  read_shape (Ok w) net estimate h a b e = sound net estimate w e
-  read_shape (Err r) net estimate h a b e = omega (arith, both_row net estimate 65537 (number_of r.why) r.row (omega arith) (omega arith) e)
+  -- the row of a refusal
+  pub row_low : (net estimate : List ℕ) (number row : ℕ) → length input ≤ input_limit → length net ≤ length input → length estimate ≤ length input → refused number row ≡ read_both net estimate → row < 100000
+  row_low net estimate number row h a b e = omega (arith, both_row net estimate 65537 number row (omega arith) (omega arith) e)
 
 -- the two parts of the input
 module _ (input : List ℕ) where

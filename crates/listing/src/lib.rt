@@ -1,20 +1,18 @@
 //! The March listing, from bytes to bytes.
 #![tactic(auto)]
 
-ghost use Rattle.std.specs.Prelude.{◌≡◌, [], ◌∷◌, ◌+◌, ◌*◌, ◌<◌, ◌≤◌, length, MatchResult};
+ghost use Rattle.std.specs.Prelude.{◌≡◌, [], ◌∷◌, ◌+◌, ◌*◌, ◌<◌, ◌≤◌, length};
 ghost use Rattle.klaim.specs.Limits.{site_limit, report_size};
 ghost use Rattle.sets.specs.Lists.{table};
 ghost use Rattle.klaim.specs.Analysis.{accepted};
-ghost use Rattle.klaim.specs.Reader.{refused};
+ghost use Rattle.klaim.specs.Reader.{refused, gives};
 ghost use Rattle.klaim.specs.Listing.{numeral, row as word_row, rows_v, home_count, used_count, list_verdict, list_read, listing as listing_of};
 ghost use Rattle.worlds.specs.World.{world_view};
-ghost use Rattle.klaim.specs.Refusals.{answer_of};
 ghost use Rattle.checker.specs.Check.{WellFormed};
 ghost use Rattle.writer.specs.Wrote.{Wrote};
 ghost use Rattle.writer.specs.Letters.{letter_table};
 ghost use Rattle.listing.specs.Lines.{entry_v, line_u, lines_u, accepted_list, Counts};
 
-use klaim::Refusal;
 use tables::{REPORT, SITES};
 use verdict::Verdict;
 use worlds::World;
@@ -141,16 +139,12 @@ fn put_break(out: &mut [u8], kind: u8, number: u8) -> usize
     rows::put_broken(out, 0, kind, number as u32)
 }
 
-// The listing of a net that was read, or of its refusal.
-fn list_read(read: Result<World, Refusal>, out: &mut [u8]) -> usize
-    requires { MatchResult read WellFormed (λ e. e.row < 100000) × (17006 ≤ length out.old) }
-    ensures wrote { Wrote out.old out.new 0 (list_read (answer_of world_view read)) result }
+// The listing of a net that was read.
+fn list_read(w: World, out: &mut [u8]) -> usize
+    requires { WellFormed w × (17006 ≤ length out.old) }
+    ensures wrote { Wrote out.old out.new 0 (list_read (gives (world_view w))) result }
     ensures upper_bound { result ≤ 17006 }
 {
-    let w = match read {
-        Ok(w) => w,
-        Err(refusal) => return put_refusal(out, refusal.why.number(), refusal.row),
-    };
     match checker::judged(w) {
         Verdict::Accepted => list_accepted(w, out),
         Verdict::BrokenTuple(i) => put_break(out, b'T', i),
@@ -169,5 +163,8 @@ pub fn list(input: &[u8], output: &mut [u8; 17006]) -> usize
     }
     let n = parts::before(input);
     let from = parts::behind(input, n);
-    list_read(worlds::read_both(&input[..n], &input[from..]), output)
+    match worlds::read_both(&input[..n], &input[from..]) {
+        Ok(w) => list_read(w, output),
+        Err(refusal) => put_refusal(output, refusal.why.number(), refusal.row),
+    }
 }

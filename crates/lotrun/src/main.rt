@@ -2,7 +2,7 @@
 //! and commands; one row for each command as soon as it is there, and at the end the state, on standard output.
 #![tactic(auto)]
 
-use script_rows::Window;
+use script_rows::Incoming;
 use std::io::{Read, Write};
 use streams::{Failure, Program};
 
@@ -24,7 +24,7 @@ fn room() -> [u8; scripts::ROOM] {
 
 fn run<R: Read, W: Write>(input: &mut R, output: &mut W) -> Result<(), Failure> {
     let mut buffer = room();
-    scripts::run(input, output, &mut buffer, Window::fresh())
+    scripts::run(&mut Incoming::fresh(input, &mut buffer), output)
 }
 
 fn main(rt: HostRuntime) {

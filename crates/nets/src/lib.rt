@@ -38,21 +38,6 @@ fn is_own(group: Group) -> bool
 }
 
 impl NetReader {
-    // Nothing is read.
-    fn new() -> NetReader
-        ensures { NetHolds a_net [] result }
-    {
-        NetReader {
-            homes: [0; 1024],
-            boxes: [UNSAID; 1056],
-            tuples: [0; 1536],
-            keys: [0; 256],
-            roots: [0; 128],
-            lines: [0; 2560],
-            tally: Tally::start(0),
-        }
-    }
-
     // Whether no row of this group may follow.
     fn is_full(&self, group: Group) -> bool
         ensures { result ≡ full_of (group_number group) self.now.tally }
@@ -210,7 +195,16 @@ fn fill_unsaid(boxes: &mut [u8; BOXES])
 pub fn read_net(s: &[u8]) -> Result<Net, Refusal>
     ensures { answer_of net_view result ≡ read_net s.now }
 {
-    let mut reader = NetReader::new();
+    // Made in its place: given by a function it is copied twice, and reading a short net misses its bar of speed.
+    let mut reader = NetReader {
+        homes: [0; 1024],
+        boxes: [UNSAID; 1056],
+        tuples: [0; 1536],
+        keys: [0; 256],
+        roots: [0; 128],
+        lines: [0; 2560],
+        tally: Tally::start(0),
+    };
     scan::read(&mut reader, s)?;
     reader.finish()
 }

@@ -1,7 +1,7 @@
 //! Runs `scripts::run` on many cases from one input, framed as `frames` says: for each a row `case,K` and what its script prints.
 #![tactic(auto)]
 
-use script_rows::Window;
+use script_rows::Incoming;
 use std::io;
 use std::io::Write;
 use streams::{Failure, Program};
@@ -15,8 +15,7 @@ const PROGRAM: Program = Program {
 
 // What the script of a case prints.
 fn run<W: Write>(output: &mut W, case: &mut [u8]) -> Result<(), Failure> {
-    let n = case.len();
-    scripts::run(&mut io::empty(), output, case, Window::whole(n))
+    scripts::run(&mut Incoming::whole(&mut io::empty(), case), output)
 }
 
 fn main(rt: HostRuntime) {

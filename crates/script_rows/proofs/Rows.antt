@@ -1,6 +1,6 @@
--- Laws of the search for a row: where its end is, what one turn gives, and what the turns give together.
+-- Laws of the search for a row: where its end is, and what one turn gives.
 -- Assumes nothing.
-use mathlib.Core.Path.{◌≡◌, sym, ap, ◌∙◌}
+use mathlib.Core.Path.{◌≡◌, refl, sym, ap, ◌∙◌}
 use mathlib.Core.List.{List}
 use Prim.Native.Nat.{ℕ, ◌+◌, ◌-◌, ◌<◌, ◌≤◌}
 use native.Mathlib.Omega.{arith}
@@ -10,9 +10,9 @@ use lib.Seq.{get_or-take, length-take-le}
 use Rattle.klaim.specs.Rows.{newline}
 use Rattle.text.specs.Pieces.{end_of}
 use Rattle.text.proofs.Pieces.{end_none, end_hit}
-use Rattle.script_rows.specs.declared.Find.TheVariants.{Row, Long}
+use Rattle.script_rows.specs.declared.Find.TheVariants.{Row}
 use Rattle.script_rows.specs.declared.Window.{Window}
-use Rattle.script_rows.specs.Window.{HasFailed, Kept, Unended, LongRow, Seeks, Turned, Roomy, Read}
+use Rattle.script_rows.specs.Window.{Kept, Unended, Seeks, Turned, Roomy, Read}
 
 -- the end of a row looked for in the first bytes of a buffer
 module _ (buf : List ℕ) (to at : ℕ) (h : to ≤ length buf) where
@@ -41,6 +41,7 @@ row_here {last} {w} {buf} e S q h low (found, from, row, next, to, coming) =
     let unended = unended_on buf last.row last.next e S.unended (looked buf last.to last.next in_order.3 e q (omega arith)) in
     record {
       more = λ m. absurd (cc);
+      long = refl;
       found = λ m. record {
         within = (omega arith, omega arith, omega arith, omega arith);
         kept = λ i l. ap (λ (k : ℕ). get_or buf (k + i) 0) from;
@@ -57,6 +58,7 @@ row_here {last} {w} {buf} e S q h low (found, from, row, next, to, coming) =
         end = λ p. absurd (cc);
         full = λ p. absurd (cc);
         goes_on = λ p. coming;
+        long = refl;
       };
     }
 
@@ -100,6 +102,7 @@ read_on {last} {r} {w} {old} {mid} {new} S all R D =
             kept,
             D.coming (λ p. cc) ∙ R.coming,
           );
+      long = D.long ∙ R.long;
       found = λ m. record {
         within = within;
         kept = kept;
@@ -109,9 +112,6 @@ read_on {last} {r} {w} {old} {mid} {new} S all R D =
         end = D.end;
         full = λ p. (from ∙ R.room (omega (arith, D.full p, D.stop m, D.long)), D.full p);
         goes_on = λ p. D.coming p ∙ R.coming;
+        long = D.long ∙ R.long;
       };
     }
-
--- a row that was passed over is long, or a read failed in it
-pub long_or_failed : {w r : Window} → LongRow w r → (r.found ≡ Long → ⊥) → ¬ HasFailed r → ⊥
-long_or_failed {w} {r} L long failed = long (L.long (λ (why, e). failed (why, L.failed why e)))

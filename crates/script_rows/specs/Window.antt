@@ -41,6 +41,7 @@ pub record Found (from next to : ℕ) (coming : Bool) (old : List ℕ) (w : Wind
   pub end : w.found ≡ End → w.row ≡ w.to
   pub full : w.found ≡ Full → (w.from ≡ 0) × (w.to ≡ length buf)
   pub goes_on : (w.found ≡ End → ⊥) → w.more ≡ coming
+  pub long : length buf ≡ length old
 
 -- the next row, kept alone, unless it was passed over or a read failed
 abbrev pub Alone : Window → List ℕ → Window → List ℕ → Type 0
@@ -71,6 +72,7 @@ pub record Seeks (w : Window) (buf : List ℕ) : Type 0 where
 -- one turn of it: there is more to look at, or something was found
 pub record Turned (last : Window) (old : List ℕ) (w : Window) (buf : List ℕ) : Type 0 where
   pub more : w.found ≡ More → Seeks w buf × (w.row + last.from ≡ last.row + w.from) × (last.to + w.from < w.to + last.from) × Kept last.from last.to old w.from buf × (w.more ≡ last.more)
+  pub long : length buf ≡ length old
   pub found : (w.found ≡ More → ⊥) → Found last.from last.row last.to last.more old w buf
 
 -- the same window with room behind it, unless what is kept fills the buffer
@@ -82,6 +84,7 @@ pub record Roomy (last : Window) (old : List ℕ) (w : Window) (buf : List ℕ) 
   pub to : w.to + last.from ≡ last.to + w.from
   pub room : w.to ≡ length buf → w.from ≡ 0
   pub coming : w.more ≡ last.more
+  pub long : length buf ≡ length old
 
 -- what a read of n bytes gave, or one that failed: a failure is not the end of the input
 abbrev pub Given : Window → Result ℕ Error → Window → Type 0

@@ -1,7 +1,9 @@
 //! The rows of an input that comes in pieces: a buffer holds what has come and is not done with, a window says where it stands.
 #![tactic(auto)]
 
-ghost use Rattle.std.specs.Prelude.{◌≡◌, not, ◌+◌, ◌<◌, ◌≤◌, length, IfOk};
+ghost use Rattle.std.specs.Prelude.{◌≡◌, not, ◌+◌, ◌<◌, ◌-◌, ◌≤◌, length, take, slice_range, IfOk};
+ghost use Rattle.klaim.specs.Rows.{newline};
+ghost use Rattle.text.specs.Pieces.{end_of};
 ghost use Rattle.script_rows.specs.Window.{Within, Found, Alone, dot_row, Dotted, LongRow, Seeks, Turned, Roomy, Given, Read};
 
 use std::io;
@@ -117,27 +119,6 @@ impl Window {
         }
     }
 
-    // The window with room behind it, unless what is kept fills the buffer.
-    fn with_room(self, buf: &mut [u8]) -> Window
-        requires { Within self buf.old }
-        ensures { Roomy self buf.old result buf.new }
-    {
-        if self.to < buf.len() {
-            return self;
-        }
-        if self.from == 0 {
-            return self;
-        }
-        buf.copy_within(self.from..self.to, 0);
-        Window {
-            from: 0,
-            row: self.row - self.from,
-            next: self.next - self.from,
-            to: self.to - self.from,
-            ..self
-        }
-    }
-
     // The window behind a read.
     fn behind(self, read: io::Result<usize>) -> Window
         requires { IfOk read (λ n. self.to + n ≤ usize.MAX) }
@@ -150,76 +131,6 @@ impl Window {
         }
     }
 
-    // Reads more behind what is there.
-    fn read_more<R: Read>(self, input: &mut R, buf: &mut [u8]) -> Window
-        requires { Within self buf.old }
-        ensures { Read self buf.old result buf.new }
-    {
-        let to = self.to;
-        if to == buf.len() {
-            return self.with(Find::Full);
-        }
-        self.behind(streams::read(input, &mut buf[to..]))
-    }
-
-    // Reads more, all that is there having been looked at.
-    fn look_further<R: Read>(self, input: &mut R, buf: &mut [u8]) -> Window
-        requires { Seeks self buf.old × (self.next ≡ self.to) }
-        ensures { Turned self buf.old result buf.new }
-    {
-        if !self.more {
-            return self.at_end();
-        }
-        self.with_room(buf).read_more(input, buf)
-    }
-
-    // Looks for the end of the row in what is there and was not looked at; reads more, where it is not there.
-    fn look_on<R: Read>(self, input: &mut R, buf: &mut [u8]) -> Window
-        requires { Seeks self buf.old }
-        ensures { Turned self buf.old result buf.new }
-    {
-        let to = self.to;
-        let end = text::row_end(&buf[..to], self.next);
-        if end < to {
-            return self.ended(end);
-        }
-        let seen = Window { next: to, ..self };
-        seen.look_further(input, buf)
-    }
-
-    // The next row. What stands from `from` on is kept.
-    pub fn next_row<R: Read>(self, input: &mut R, buf: &mut [u8]) -> Window
-        requires { Within self buf.old }
-        ensures { Found self.from self.next self.to self.more buf.old result buf.new }
-    {
-        let mut w = Window {
-            row: self.next,
-            ..self
-        };
-        loop {
-            w = w.look_on(input, buf);
-            let Find::More = w.found else {
-                return w;
-            };
-        }
-    }
-
-    // Passes over a row that fills the buffer, to its end.
-    fn pass_over<R: Read>(self, input: &mut R, buf: &mut [u8]) -> Window
-        requires { Within self buf.old }
-        ensures { Within result buf.new }
-    {
-        let mut w = self;
-        for _ in 0..u64::MAX {
-            let Find::Full = w.found else {
-                return w;
-            };
-            w.next = w.to;
-            w = w.passed().next_row(input, buf);
-        }
-        w
-    }
-
     // The window behind a row that was passed over, unless a read failed there.
     fn long_row(self) -> Window
         ensures { LongRow self result }
@@ -229,69 +140,231 @@ impl Window {
             _ => self.with(Find::Long),
         }
     }
+}
+
+// The rows of an input, the buffer that they come into, and where it stands.
+#[derive(Drop)]
+pub struct Incoming<'a, R> {
+    input: &'a mut R,
+    buf: &'a mut [u8],
+    pub window: Window,
+    pub ghost within: { Within window buf.now },
+}
+
+impl<'a, R: Read> Incoming<'a, R> {
+    // An input of which nothing has come yet.
+    pub fn fresh(input: &'a mut R, buf: &'a mut [u8]) -> Incoming<'a, R>
+        ensures places { (result.window.from ≡ 0) × (result.window.row ≡ 0) × (result.window.next ≡ 0) × (result.window.to ≡ 0) }
+        ensures kept { result.buf.now ≡ buf.old }
+    {
+        Incoming {
+            input,
+            buf,
+            window: Window::fresh(),
+        }
+    }
+
+    // An input that is in the buffer as a whole: nothing is read.
+    pub fn whole(input: &'a mut R, buf: &'a mut [u8]) -> Incoming<'a, R>
+        ensures places { (result.window.from ≡ 0) × (result.window.row ≡ 0) × (result.window.next ≡ 0) × (result.window.to ≡ length buf.old) }
+        ensures kept { result.buf.now ≡ buf.old }
+    {
+        let n = buf.len();
+        Incoming {
+            input,
+            buf,
+            window: Window::whole(n),
+        }
+    }
+
+    // What is kept in front of the row that was asked for.
+    pub fn kept(&self) -> &[u8]
+        ensures { result.now ≡ slice_range self.now.buf.now self.now.window.from self.now.window.row }
+    {
+        &self.buf[self.window.from..self.window.row]
+    }
+
+    // What is kept, with the row that was found.
+    pub fn head(&self) -> &[u8]
+        ensures { result.now ≡ slice_range self.now.buf.now self.now.window.from self.now.window.next }
+    {
+        &self.buf[self.window.from..self.window.next]
+    }
+
+    // The row that was found, without its 0A.
+    pub fn row(&self) -> &[u8]
+        requires { self.now.window.row < self.now.window.next }
+        ensures { result.now ≡ slice_range self.now.buf.now self.now.window.row (self.now.window.next - 1) }
+    {
+        &self.buf[self.window.row..self.window.next - 1]
+    }
+
+    // Goes on to the next row: what stands before is done with.
+    pub fn pass(&mut self)
+        ensures window { (self.new.window.from ≡ self.old.window.next) × (self.new.window.row ≡ self.old.window.next) × (self.new.window.next ≡ self.old.window.next) × (self.new.window.to ≡ self.old.window.to) × (self.new.window.more ≡ self.old.window.more) }
+        ensures kept { self.new.buf.now ≡ self.old.buf.now }
+    {
+        self.window = self.window.passed();
+    }
+
+    // Makes room behind what is kept, unless that fills the buffer.
+    fn make_room(&mut self)
+        ensures { Roomy self.old.window self.old.buf.now self.new.window self.new.buf.now }
+    {
+        let w = self.window;
+        if w.to < self.buf.len() {
+            return;
+        }
+        if w.from == 0 {
+            return;
+        }
+        self.buf.copy_within(w.from..w.to, 0);
+        self.window = Window {
+            from: 0,
+            row: w.row - w.from,
+            next: w.next - w.from,
+            to: w.to - w.from,
+            ..w
+        };
+    }
+
+    // Reads more behind what is there.
+    fn read_more(&mut self)
+        ensures { Read self.old.window self.old.buf.now self.new.window self.new.buf.now }
+    {
+        let to = self.window.to;
+        if to == self.buf.len() {
+            self.window = self.window.with(Find::Full);
+            return;
+        }
+        let read = streams::read(self.input, &mut self.buf[to..]);
+        self.window = self.window.behind(read);
+    }
+
+    // Reads more, all that is there having been looked at.
+    fn look_further(&mut self)
+        requires { Seeks self.old.window self.old.buf.now × (self.old.window.next ≡ self.old.window.to) }
+        ensures { Turned self.old.window self.old.buf.now self.new.window self.new.buf.now }
+    {
+        if !self.window.more {
+            self.window = self.window.at_end();
+            return;
+        }
+        self.make_room();
+        self.read_more();
+    }
+
+    // Where the row ends in what is there, looked for from `next` on; where all that is there ends, if it does not.
+    fn row_end(&self) -> usize
+        ensures { result ≡ end_of newline (take self.now.window.to self.now.buf.now) self.now.window.next }
+    {
+        let w = self.window;
+        text::row_end(&self.buf[..w.to], w.next)
+    }
+
+    // Looks for the end of the row in what is there and was not looked at; reads more, where it is not there.
+    fn look_on(&mut self)
+        requires { Seeks self.old.window self.old.buf.now }
+        ensures { Turned self.old.window self.old.buf.now self.new.window self.new.buf.now }
+    {
+        let w = self.window;
+        let end = self.row_end();
+        if end < w.to {
+            self.window = w.ended(end);
+            return;
+        }
+        self.window = Window { next: w.to, ..w };
+        self.look_further();
+    }
+
+    // The next row. What stands from `from` on is kept.
+    pub fn next_row(&mut self)
+        ensures { Found self.old.window.from self.old.window.next self.old.window.to self.old.window.more self.old.buf.now self.new.window self.new.buf.now }
+    {
+        let w = self.window;
+        self.window = Window { row: w.next, ..w };
+        loop {
+            self.look_on();
+            let Find::More = self.window.found else {
+                return;
+            };
+        }
+    }
+
+    // Passes over a row that fills the buffer, to its end.
+    fn pass_over(&mut self)
+        ensures { length self.new.buf.now ≡ length self.old.buf.now }
+    {
+        for _ in 0..u64::MAX {
+            let Find::Full = self.window.found else {
+                return;
+            };
+            self.window.next = self.window.to;
+            self.pass();
+            self.next_row();
+        }
+    }
 
     // The next row, kept alone. One that does not fit into the buffer is passed over.
-    pub fn row_alone<R: Read>(self, input: &mut R, buf: &mut [u8]) -> Window
-        requires { Within self buf.old }
-        ensures { Alone self buf.old result buf.new }
+    pub fn row_alone(&mut self)
+        ensures alone { Alone self.old.window self.old.buf.now self.new.window self.new.buf.now }
+        ensures long { length self.new.buf.now ≡ length self.old.buf.now }
     {
-        let first = self.passed().next_row(input, buf);
-        let Find::Full = first.found else {
-            return first;
+        self.pass();
+        self.next_row();
+        let Find::Full = self.window.found else {
+            return;
         };
-        first.pass_over(input, buf).long_row()
+        self.pass_over();
+        self.window = self.window.long_row();
     }
 
     // Whether the row that was found is `.`.
-    fn is_dot(self, buf: &[u8]) -> bool
-        requires { Within self buf.now }
-        ensures { result ≡ dot_row self buf.now }
+    fn is_dot(&self) -> bool
+        ensures { result ≡ dot_row self.now.window self.now.buf.now }
     {
-        self.next - self.row == 2 && buf[self.row] == b'.'
+        let w = self.window;
+        w.next - w.row == 2 && self.buf[w.row] == b'.'
     }
 
     // The next row `.`. The rows before it are kept.
-    pub fn dot<R: Read>(self, input: &mut R, buf: &mut [u8]) -> Window
-        requires { Within self buf.old }
-        ensures { Dotted self buf.old result buf.new }
+    pub fn dot(&mut self)
+        ensures dotted { Dotted self.old.window self.old.buf.now self.new.window self.new.buf.now }
+        ensures long { length self.new.buf.now ≡ length self.old.buf.now }
     {
-        let mut w = self;
         loop {
-            w = w.next_row(input, buf);
-            let Find::Row = w.found else {
-                return w;
+            self.next_row();
+            let Find::Row = self.window.found else {
+                return;
             };
-            if w.is_dot(buf) {
-                return w;
+            if self.is_dot() {
+                return;
             }
         }
     }
 
     // Whether there is a row to pass over: one that is not `.`.
-    fn is_other(self, buf: &[u8]) -> bool
-        requires { Within self buf.now }
-        ensures { self.found ≡ Find.Row → result ≡ not (dot_row self buf.now) }
+    fn is_other(&self) -> bool
+        ensures { self.now.window.found ≡ Find.Row → result ≡ not (dot_row self.now.window self.now.buf.now) }
     {
-        match self.found {
-            Find::Row => !self.is_dot(buf),
+        match self.window.found {
+            Find::Row => !self.is_dot(),
             Find::Long => true,
             _ => false,
         }
     }
 
     // The next row `.`, where the rows before it do not fit into the buffer: they are passed over.
-    pub fn dot_alone<R: Read>(self, input: &mut R, buf: &mut [u8]) -> Window
-        requires { Within self buf.old }
-        ensures { Within result buf.new }
+    pub fn dot_alone(&mut self)
+        ensures { length self.new.buf.now ≡ length self.old.buf.now }
     {
-        let mut w = self.with(Find::Long);
-        w.next = w.row;
+        self.window = self.window.with(Find::Long);
+        self.window.next = self.window.row;
         for _ in 0..u64::MAX {
-            if !w.is_other(buf) {
-                return w;
+            if !self.is_other() {
+                return;
             }
-            w = w.row_alone(input, buf);
+            self.row_alone();
         }
-        w
     }
 }

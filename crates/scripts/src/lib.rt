@@ -4,12 +4,11 @@
 
 ghost use Rattle.std.specs.Prelude.{◌≡◌, false, ◌≤◌, length, IfOk};
 ghost use Rattle.std.specs.declared.io.Error.{Error};
-ghost use Rattle.script_rows.specs.Window.{Within};
 ghost use Rattle.state.specs.Fits.{Fits};
 
 use commands::Command;
 use klaim::{Reason, Refusal};
-use script_rows::{Find, Window};
+use script_rows::{Find, Incoming};
 use state::{Event, State};
 use std::io;
 use std::io::{Read, Write};
@@ -104,40 +103,35 @@ fn respond<W: Write>(output: &mut W, state: &State, command: Command) -> io::Res
 
 // Obeys the next command and prints its row; false, where the input has ended.
 fn turn<R: Read, W: Write>(
-    input: &mut R,
+    incoming: &mut Incoming<'_, R>,
     output: &mut W,
-    buf: &mut [u8],
-    window: &mut Window,
     state: &mut State,
 ) -> Result<bool, Failure>
-    requires { Within window.old buf.old × Fits state.old }
-    ensures within { Within window.new buf.new × Fits state.new }
-    ensures failed { (why : Error) → window.new.found ≡ Find.Failed why → result ≡ Err (Failure.Unread why) }
-    ensures ended { result ≡ Ok false → window.new.found ≡ Find.End }
+    requires { Fits state.old }
+    ensures fits { Fits state.new }
+    ensures failed { (why : Error) → incoming.new.window.found ≡ Find.Failed why → result ≡ Err (Failure.Unread why) }
+    ensures ended { result ≡ Ok false → incoming.new.window.found ≡ Find.End }
 {
-    let asked = commands::next(input, buf, window).map_err(Failure::Unread)?;
+    let asked = commands::next(incoming).map_err(Failure::Unread)?;
     let Some(command) = asked else {
         return Ok(false);
     };
-    obey(state, command, &buf[window.from..window.row]);
+    obey(state, command, incoming.kept());
     respond(output, state, command).map_err(Failure::Unwritten)?;
     Ok(true)
 }
 
 // Runs the commands to the end of the input, and prints the state. They are counted, to a number that no run uses up.
 fn run_all<R: Read, W: Write>(
-    input: &mut R,
+    incoming: &mut Incoming<'_, R>,
     output: &mut W,
-    buf: &mut [u8],
-    first: Window,
     begun: State,
 ) -> Result<(), Failure>
-    requires { Within first buf.old × Fits begun }
+    requires { Fits begun }
 {
-    let mut window = first;
     let mut state = begun;
     for _ in 0..u64::MAX {
-        if !turn(input, output, buf, &mut window, &mut state)? {
+        if !turn(incoming, output, &mut state)? {
             break;
         }
     }
@@ -146,18 +140,16 @@ fn run_all<R: Read, W: Write>(
 
 // Runs the commands on the state that begins, unless it was refused.
 fn carry_on<R: Read, W: Write>(
-    input: &mut R,
+    incoming: &mut Incoming<'_, R>,
     output: &mut W,
-    buf: &mut [u8],
-    head: Window,
     begun: Result<State, Refusal>,
 ) -> Result<(), Failure>
-    requires { Within head buf.old × IfOk begun Fits }
+    requires { IfOk begun Fits }
 {
     match begun {
         Ok(state) => {
             answers::say(output, b"started\n").map_err(Failure::Unwritten)?;
-            run_all(input, output, buf, head, state)
+            run_all(incoming, output, state)
         }
         Err(refusal) => say_refusal(output, refusal).map_err(Failure::Unwritten),
     }
@@ -181,40 +173,30 @@ fn begin(head: &[u8]) -> Result<State, Refusal>
 }
 
 // Reads the head: up to the second row `.`, or all of the input.
-fn read_head<R: Read>(input: &mut R, buf: &mut [u8], first: Window) -> Window
-    requires { Within first buf.old }
-    ensures { Within result buf.new }
-{
-    let net = first.dot(input, buf);
-    match net.found {
-        Find::Row => net.dot(input, buf),
-        _ => net,
+fn read_head<R: Read>(incoming: &mut Incoming<'_, R>) {
+    incoming.dot();
+    if let Find::Row = incoming.window.found {
+        incoming.dot();
     }
 }
 
 // Whether a head is longer than the limit.
-fn is_long(head: Window) -> bool
-    requires { head.from ≤ head.next }
-{
-    matches!(head.found, Find::Full) || HEAD_LIMIT < head.next - head.from
+fn is_long<R: Read>(incoming: &Incoming<'_, R>) -> bool {
+    matches!(incoming.window.found, Find::Full) || HEAD_LIMIT < incoming.head().len()
 }
 
 // Runs a script: net rows, a row `.`, estimate rows, a row `.`, commands. A head longer than the limit is 2, row 0.
 pub fn run<R: Read, W: Write>(
-    input: &mut R,
+    incoming: &mut Incoming<'_, R>,
     output: &mut W,
-    buf: &mut [u8],
-    first: Window,
-) -> Result<(), Failure>
-    requires { Within first buf.old }
-{
-    let head = read_head(input, buf, first);
-    if let Find::Failed(why) = head.found {
+) -> Result<(), Failure> {
+    read_head(incoming);
+    if let Find::Failed(why) = incoming.window.found {
         return Err(Failure::Unread(why));
     }
-    if is_long(head) {
+    if is_long(incoming) {
         return say_refusal(output, Refusal::from(Reason::Limit)).map_err(Failure::Unwritten);
     }
-    let begun = begin(&buf[head.from..head.next]);
-    carry_on(input, output, buf, head, begun)
+    let begun = begin(incoming.head());
+    carry_on(incoming, output, begun)
 }

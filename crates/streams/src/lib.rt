@@ -103,6 +103,7 @@ pub fn read_full<R: Read>(input: &mut R, buf: &mut [u8]) -> Result<usize, Broken
     ensures taken { Consumes (R.remaining input.old) (R.remaining input.new) (take (came result) buf.new) }
     ensures end { IfOk result (λ n. n < length buf.new → IsAtEnd (R.remaining input.new)) }
 {
+    // Counted, since how far it came is told also where it failed.
     let mut done: usize = 0;
     while done < buf.len() {
         match read(input, &mut buf[done..]) {
@@ -114,7 +115,8 @@ pub fn read_full<R: Read>(input: &mut R, buf: &mut [u8]) -> Result<usize, Broken
     Ok(done)
 }
 
-// One write: how many bytes were taken.
+// One write: how many bytes were taken. The loop is that of `read`, not shared over a closure: of the calls that a closure makes before
+// the last one nothing is known, so that neither promise could be proved.
 fn write_some<W: Write>(output: &mut W, bytes: &[u8]) -> io::Result<usize>
     ensures within { WritesAtMost result bytes.now }
     ensures put { WriteAppends (W.contents output.old) (W.contents output.new) result bytes.now }

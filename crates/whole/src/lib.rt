@@ -33,6 +33,7 @@ enum Children {
     Two(u8, u8),
 }
 
+#[tactic(auto, unfolding(crate::specs::Children::list_of, klaim::specs::Process::children, tables::specs::View::action_line))]
 fn children_of(action: Action) -> Children
     ensures { (fs : List ℕ) → list_of result ≡ children (action_line action fs) }
 {
@@ -226,6 +227,7 @@ fn target_var(target: Loc) -> u32
 }
 
 // The free variables of line q: those of its target and its fields, and those of the line that follows that are not bound.
+#[tactic(auto, unfolding(crate::specs::Free::free_fields, sets::specs::Bits::join, sets::specs::Bits::less, sets::specs::Bits::meet))]
 fn with_fields(lines: &[u8; 2560], q: u8, target: Loc, count: u8, binds: u8, rest: u32) -> u32
     requires { LowLoc target × (count ≤ 4) × (binds ≤ 4) }
     ensures { result ≡ free_fields target count binds (field_bytes lines.now q) rest }
@@ -237,6 +239,7 @@ fn with_fields(lines: &[u8; 2560], q: u8, target: Loc, count: u8, binds: u8, res
 }
 
 // The free variables of two lines, and of a target.
+#[tactic(auto, unfolding(crate::specs::Free::free_forks, sets::specs::Bits::join))]
 fn of_both(target: Loc, a: u32, b: u32) -> u32
     requires { LowLoc target }
     ensures { result ≡ free_forks target a b }
@@ -255,6 +258,7 @@ enum Names {
     Forks(u8, u8, Loc),
 }
 
+#[tactic(auto, unfolding(crate::specs::Free::names_of))]
 fn names_of(action: Action) -> Names
     ensures { result ≡ names_of action }
 {

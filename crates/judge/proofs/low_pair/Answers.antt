@@ -4,10 +4,10 @@ use Rattle.sets.specs.Lists.{all, ◌&◌}
 use Rattle.sets.proofs.Lists.{and_true}
 use Rattle.judge.proofs.low_pair.Goals as goal
 
-pub returns-then-s-n : goal.returns-then-s-n
+pub returns-then-pair-n : goal.returns-then-pair-n
 unfolding all ◌&◌
-returns-then-s-n c = rw (lt-ltb _ _ c.if-s-n.true) (sym (and_true _))
+returns-then-pair-n c = rw (lt-ltb _ _ c.if-pair-n.true) (sym (and_true _))
 
-pub returns : goal.returns
+pub returns-else-pair-n : goal.returns-else-pair-n
 unfolding all ◌&◌
-returns c = rw (le-ltb _ _ c.if-s-n.false) refl
+returns-else-pair-n c = rw (le-ltb _ _ c.if-pair-n.false) refl

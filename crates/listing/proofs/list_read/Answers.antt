@@ -7,12 +7,12 @@ use Rattle.listing.proofs.list_read.Goals as goal
 
 pub returns-in-Accepted-clause-wrote : goal.returns-in-Accepted-clause-wrote
 unfolding verdict_view
-returns-in-Accepted-clause-wrote c = rw c.in-Ok.is (wrote_as (list_verdict_lem _ _ c.in-Accepted.ensures) c.list_accepted.ensures.wrote)
+returns-in-Accepted-clause-wrote c = wrote_as (list_verdict_lem _ _ c.in-Accepted.ensures) c.list_accepted.ensures.wrote
 
 pub returns-in-BrokenTuple-clause-wrote : goal.returns-in-BrokenTuple-clause-wrote
 unfolding verdict_view
-returns-in-BrokenTuple-clause-wrote c = rw c.in-Ok.is (wrote_as (broken_tuple_list _ _ ∙ list_verdict_lem _ _ c.in-BrokenTuple.ensures) c.put_break.ensures.wrote)
+returns-in-BrokenTuple-clause-wrote c = wrote_as (broken_tuple_list _ _ ∙ list_verdict_lem _ _ c.in-BrokenTuple.ensures) c.put_break.ensures.wrote
 
 pub returns-in-BrokenLine-clause-wrote : goal.returns-in-BrokenLine-clause-wrote
 unfolding verdict_view
-returns-in-BrokenLine-clause-wrote c = rw c.in-Ok.is (wrote_as (broken_line_list _ _ ∙ list_verdict_lem _ _ c.in-BrokenLine.ensures) c.put_break-in-BrokenLine.ensures.wrote)
+returns-in-BrokenLine-clause-wrote c = wrote_as (broken_line_list _ _ ∙ list_verdict_lem _ _ c.in-BrokenLine.ensures) c.put_break-in-BrokenLine.ensures.wrote

@@ -1,6 +1,5 @@
-use Rattle.script_rows.specs.Window.{Within}
 use Rattle.state.specs.Fits.{Fits}
 use Rattle.scripts.proofs.run_all.Given as goal
 
 abbrev pub invariant-loop : goal.invariant-loop
-invariant-loop g l = Within l.window l.buf × Fits l.state
+invariant-loop g l = Fits l.state

@@ -1,4 +1,4 @@
-use mathlib.Core.Path.{◌≡◌, refl, sym, ◌∙◌}
+use mathlib.Core.Path.{◌≡◌, sym, ◌∙◌}
 use Prim.Native.Nat.{suc, ◌+◌}
 use native.Mathlib.Omega.{arith}
 use lib.Dec.{eqb}
@@ -7,9 +7,6 @@ use borrow.Author.Tests.{eq-eqb, ne_eqb}
 use Rattle.sets.specs.Lists.{below}
 use Rattle.sets.proofs.Shared.{all_yes, all_no, all_end}
 use Rattle.whole.proofs.all_one.Goals as goal
-
-pub loop-q-init : goal.loop-q-init
-loop-q-init c = refl
 
 pub loop-q-preserved : goal.loop-q-preserved
 loop-q-preserved c =

@@ -1,4 +1,4 @@
-use mathlib.Core.Path.{◌≡◌, refl, sym, ap, ◌∙◌}
+use mathlib.Core.Path.{◌≡◌, sym, ap, ◌∙◌}
 use Prim.Native.Nat.{suc, ◌+◌}
 use native.Mathlib.Omega.{arith}
 use lib.Dec.{ltb}
@@ -6,9 +6,6 @@ use Rattle.sets.specs.Lists.{◌&◌, all}
 use Rattle.whole.proofs.Order.{fits, order_all}
 use Rattle.sets.proofs.Shared.{all_yes, all_no, all_end}
 use Rattle.whole.proofs.in_order.Goals as goal
-
-pub loop-q-init : goal.loop-q-init
-loop-q-init c = refl
 
 pub loop-q-preserved : goal.loop-q-preserved
 loop-q-preserved c =

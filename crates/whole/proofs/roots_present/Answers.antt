@@ -1,4 +1,4 @@
-use mathlib.Core.Path.{◌≡◌, refl, sym, ◌∙◌}
+use mathlib.Core.Path.{◌≡◌, sym, ◌∙◌}
 use Prim.Native.Nat.{suc, ◌+◌}
 use native.Mathlib.Omega.{arith}
 use lib.Dec.{ltb}
@@ -8,9 +8,6 @@ use Rattle.tables.specs.View.{root_at}
 use Rattle.whole.proofs.Order.{present_all}
 use Rattle.sets.proofs.Shared.{all_yes, all_no, all_end}
 use Rattle.whole.proofs.roots_present.Goals as goal
-
-pub loop-i-init : goal.loop-i-init
-loop-i-init c = refl
 
 pub loop-i-preserved : goal.loop-i-preserved
 unfolding root_at
