@@ -14,7 +14,7 @@ ghost use Rattle.report.specs.Given.{a_root, Rooted, RowAdded};
 use flow::UseMap;
 use klaim::Loc;
 use std::array;
-use tables::{Action, Estimate, Lines, Net};
+use tables::{Action, Estimate, Lines, Net, REPORT};
 
 // What a has and b lacks.
 fn less(a: u8, b: u8) -> u8
@@ -71,10 +71,12 @@ fn add_uses(bytes: &mut [u8; 1024], set: u32, m: UseMap)
 }
 
 // The E rights of each site less its home policy.
-fn holds_left(net: &Net, estimate: &Estimate) -> [u8; 1024]
-    ensures { result ≡ table 1024 (λ i. hold_adds (net_view net.now) (estimate_view estimate.now) (i / 32) (i % 32)) }
+fn put_holds(bytes: &mut [u8; 1024], net: &Net, estimate: &Estimate)
+    ensures { bytes.new ≡ table 1024 (λ i. hold_adds (net_view net.now) (estimate_view estimate.now) (i / 32) (i % 32)) }
 {
-    array::from_fn(|i| less(estimate.hold[i], net.homes[i]))
+    for i in 0..REPORT {
+        bytes[i] = less(estimate.hold[i], net.homes[i]);
+    }
 }
 
 // What a line adds to the report: the lines that follow, then the target, the body and the sandbox of an eval.
@@ -165,7 +167,8 @@ pub fn report(net: &Net, estimate: &Estimate) -> [u8; 1024]
     requires { Rooted net.now.lines net.now.roots }
     ensures { result ≡ report_of (net_view net.now) (estimate_view estimate.now) }
 {
-    let mut bytes = holds_left(net, estimate);
+    let mut bytes = [0u8; 1024];
+    put_holds(&mut bytes, net, estimate);
     for i in 0..net.roots.count {
         let site = net.roots.site(i);
         let line = net.roots.line(i);

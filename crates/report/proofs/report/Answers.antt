@@ -5,7 +5,7 @@ use Rattle.report.proofs.Whole.{far_none, far_more, far_all}
 use Rattle.report.proofs.report.Goals as goal
 
 pub loop-i-init : goal.loop-i-init
-loop-i-init c = far_none (net_view c.args.net.now) (estimate_view c.args.estimate.now) c.args.net.now.roots.bytes c.holds_left-bytes.ensures
+loop-i-init c = far_none (net_view c.args.net.now) (estimate_view c.args.estimate.now) c.args.net.now.roots.bytes c.put_holds.ensures
 
 pub add_root-requires : goal.add_root-requires
 add_root-requires c =
