@@ -19,7 +19,7 @@ use forms::{Group, Row};
 use klaim::{Reason, Refusal};
 use reading::ArrivalReader;
 use scan::{Reader, Tally};
-use tables::{LINES, Lines};
+use tables::{LINES, Lines, Roots};
 
 // Whether a group is that of an arrival's rows.
 fn is_own(group: Group) -> bool
@@ -74,12 +74,16 @@ impl ArrivalReader {
     fn finish(&self) -> Result<Lines, Refusal>
         ensures { (t : Text) (rows : List Spec.Row) → ArrivalHolds t rows self.now → answer_of lines_of result ≡ whole (numbers_of rows) (lines_in rows) (0 ∷ []) (lines_in rows) }
     {
-        let root = [0u8; 128];
-        whole::whole(self.tally.turn, &self.lines, self.tally.lines, &root, 1)?;
-        Ok(Lines {
+        let lines = Lines {
             bytes: self.lines,
             count: self.tally.lines,
-        })
+        };
+        let root = Roots {
+            bytes: [0; 128],
+            count: 1,
+        };
+        whole::whole(self.tally.turn, &lines, &root)?;
+        Ok(lines)
     }
 }
 

@@ -116,13 +116,15 @@ impl NetReader {
                 row: 1,
             });
         }
-        whole::whole(
-            tally.turn,
-            &self.lines,
-            tally.lines,
-            &self.roots,
-            tally.roots,
-        )?;
+        let lines = Lines {
+            bytes: self.lines,
+            count: tally.lines,
+        };
+        let roots = Roots {
+            bytes: self.roots,
+            count: tally.roots,
+        };
+        whole::whole(tally.turn, &lines, &roots)?;
         let mut boxes = self.boxes;
         fill_unsaid(&mut boxes);
         Ok(Net {
@@ -133,14 +135,8 @@ impl NetReader {
                 bytes: self.tuples,
                 count: tally.tuples,
             },
-            roots: Roots {
-                bytes: self.roots,
-                count: tally.roots,
-            },
-            lines: Lines {
-                bytes: self.lines,
-                count: tally.lines,
-            },
+            roots,
+            lines,
         })
     }
 }

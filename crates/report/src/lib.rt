@@ -88,35 +88,24 @@ enum Evals {
     Sends(u8, Loc, u8, u8),
 }
 
+#[tactic(auto, unfolding(crate::specs::Evals::evals_of))]
 fn evals_of(action: Action) -> Evals
     ensures { result ≡ evals_of action }
 {
     match action {
         Action::Nil => Evals::Nothing,
         Action::Par { next, second } => Evals::Both(next, second),
-        Action::Rep { next } => Evals::Next(next),
-        Action::Out {
-            next,
-            target: _,
-            count: _,
-        } => Evals::Next(next),
-        Action::In {
-            next,
-            target: _,
-            count: _,
-        } => Evals::Next(next),
-        Action::Read {
-            next,
-            target: _,
-            count: _,
-        } => Evals::Next(next),
         Action::Eval {
             next,
             target,
             body,
             sandbox,
         } => Evals::Sends(next, target, body, sandbox),
-        Action::Accept { next, sandbox: _ } => Evals::Next(next),
+        Action::Rep { next }
+        | Action::Out { next, .. }
+        | Action::In { next, .. }
+        | Action::Read { next, .. }
+        | Action::Accept { next, .. } => Evals::Next(next),
     }
 }
 

@@ -274,7 +274,7 @@ fn action_of(kind: u8, next: u8, second: u8, sandbox: u8, target: Loc, count: u8
 }
 
 // What line q does.
-pub fn action_at(lines: &[u8; 2560], q: u8) -> Action
+fn action_at(lines: &[u8; 2560], q: u8) -> Action
     ensures { Decoded lines.now q result }
 {
     let at = LINE * (q as usize);
@@ -289,15 +289,6 @@ pub fn action_at(lines: &[u8; 2560], q: u8) -> Action
         target,
         count,
     )
-}
-
-// Field j of line q, as a byte.
-pub fn field_at(lines: &[u8; 2560], q: u8, j: u8) -> u8
-    requires { j < 4 }
-    ensures { result ≡ get_or (field_bytes lines.now q) j 0 }
-{
-    let at = LINE * (q as usize) + FIELD;
-    lines[at + (j as usize)]
 }
 
 impl Lines {

@@ -14,6 +14,8 @@ use Rattle.sets.proofs.Tables.{table_all}
 use Rattle.klaim.specs.Process.{children, ordered_from, ordered, tree, free}
 use Rattle.klaim.specs.Net.{Root}
 use Rattle.klaim.specs.Reader.{roots_closed}
+use Rattle.tables.specs.declared.Lines.{Lines}
+use Rattle.tables.specs.declared.Roots.{Roots}
 use Rattle.tables.specs.View.{line_of, lines_view, root_at, roots_view, InForm}
 use Rattle.tables.proofs.LineTable.{length_view}
 use Rattle.whole.specs.declared.Children.{Children}
@@ -76,9 +78,8 @@ unfolding roots_closed roots_view
 closed_all n bs m rs = all_map (λ q. empty (free (tree (lines_view n bs) q))) (λ x. x.line) (table m (root_at rs))
 
 -- the line of root i
-pub root_form : {n : ℕ} {bs : List ℕ} {m : ℕ} {rs : List ℕ} → RootsIn n bs m rs → (i : ℕ) → i < m → InForm n bs (get_or rs (2 * i + 1) 0)
-unfolding root_at
-root_form {n} {bs} {m} {rs} w i h = record {
+pub root_form : {ls : Lines} {rs : Roots} → RootsIn ls rs → (i : ℕ) → i < rs.count → InForm ls.count ls.bytes (root_at rs.bytes i).line
+root_form {ls} {rs} w i h = record {
   in_order = w.in_order;
-  present = ltb_lt (get_or rs (2 * i + 1) 0) n (table_all (λ (x : Root). ltb x.line n) m (root_at rs) (sym (present_all n m rs) ∙ w.present) i h);
+  present = ltb_lt (root_at rs.bytes i).line ls.count (table_all (λ (x : Root). ltb x.line ls.count) rs.count (root_at rs.bytes) (sym (present_all ls.count rs.count rs.bytes) ∙ w.present) i h);
 }

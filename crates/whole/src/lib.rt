@@ -7,7 +7,7 @@ ghost use Rattle.sets.specs.Bits.{joins};
 ghost use Rattle.klaim.specs.declared.Slot.TheVariants.{Value};
 ghost use Rattle.klaim.specs.Process.{children, used_in, tree, ordered, free};
 ghost use Rattle.klaim.specs.Reader.{named_once, roots_closed};
-ghost use Rattle.tables.specs.View.{line_of, lines_view, roots_view, field_bytes, action_line, LowLoc, InForm};
+ghost use Rattle.tables.specs.View.{line_of, lines_of, roots_of, field_bytes, action_line, LowLoc, InForm};
 ghost use Rattle.whole.specs.Free.{mask_of, var_in, free_fields, free_forks, names_of};
 ghost use Rattle.whole.specs.Children.{list_of};
 ghost use Rattle.whole.specs.RootsIn.{RootsIn};
@@ -15,7 +15,7 @@ ghost use Rattle.whole.specs.Counted.{Counted};
 ghost use Rattle.whole.specs.Reasons.{whole_of};
 
 use klaim::{Loc, Reason};
-use tables::{Action, ROOT, SORT};
+use tables::{Action, Lines, Roots, SORT};
 
 // Whether a child of line q is greater than q and one of the n lines.
 fn child_fits(q: usize, n: usize, child: u8) -> bool
@@ -40,36 +40,19 @@ fn children_of(action: Action) -> Children
     match action {
         Action::Nil => Children::Zero,
         Action::Par { next, second } => Children::Two(next, second),
-        Action::Rep { next } => Children::One(next),
-        Action::Out {
-            next,
-            target: _,
-            count: _,
-        } => Children::One(next),
-        Action::In {
-            next,
-            target: _,
-            count: _,
-        } => Children::One(next),
-        Action::Read {
-            next,
-            target: _,
-            count: _,
-        } => Children::One(next),
-        Action::Eval {
-            next,
-            target: _,
-            body,
-            sandbox: _,
-        } => Children::Two(next, body),
-        Action::Accept { next, sandbox: _ } => Children::One(next),
+        Action::Eval { next, body, .. } => Children::Two(next, body),
+        Action::Rep { next }
+        | Action::Out { next, .. }
+        | Action::In { next, .. }
+        | Action::Read { next, .. }
+        | Action::Accept { next, .. } => Children::One(next),
     }
 }
 
-fn children_at(lines: &[u8; 2560], q: u8) -> Children
-    ensures { list_of result ≡ children (line_of lines.now q) }
+fn children_at(lines: &Lines, q: u8) -> Children
+    ensures { list_of result ≡ children (line_of lines.now.bytes q) }
 {
-    children_of(tables::action_at(lines, q))
+    children_of(lines.action(q))
 }
 
 // Whether each of the children of line q is greater than q and one of the n lines.
@@ -84,12 +67,12 @@ fn children_fit(cs: Children, q: usize, n: usize) -> bool
 }
 
 // Whether each child is greater than its parent and one of the n lines.
-fn in_order(lines: &[u8; 2560], n: usize) -> bool
-    requires { n ≤ 256 }
-    ensures { result ≡ ordered (lines_view n lines.now) }
+fn in_order(lines: &Lines) -> bool
+    requires { lines.now.count ≤ 256 }
+    ensures { result ≡ ordered (lines_of lines.now) }
 {
-    for q in 0..n {
-        if !children_fit(children_at(lines, q as u8), q, n) {
+    for q in 0..lines.count {
+        if !children_fit(children_at(lines, q as u8), q, lines.count) {
             return false;
         }
     }
@@ -97,12 +80,12 @@ fn in_order(lines: &[u8; 2560], n: usize) -> bool
 }
 
 // Whether the lines of the m roots are among the n lines.
-fn roots_present(roots: &[u8; 128], m: usize, n: usize) -> bool
-    requires { m ≤ 64 }
-    ensures { result ≡ all (λ q. ltb q n) (map (λ x. x.line) (roots_view m roots.now)) }
+fn roots_present(roots: &Roots, n: usize) -> bool
+    requires { roots.now.count ≤ 64 }
+    ensures { result ≡ all (λ q. ltb q n) (map (λ x. x.line) (roots_of roots.now)) }
 {
-    for i in 0..m {
-        if n <= usize::from(roots[ROOT * i + 1]) {
+    for i in 0..roots.count {
+        if n <= usize::from(roots.line(i)) {
             return false;
         }
     }
@@ -141,11 +124,11 @@ fn named_children(counts: &mut [u8; 256], cs: Children)
 }
 
 // The children of all n lines named once more.
-fn named_lines(counts: &mut [u8; 256], lines: &[u8; 2560], n: usize)
-    requires { n ≤ 256 }
-    ensures { (xs : List ℕ) → Counted xs counts.old → Counted (xs ⧺ concat children (lines_view n lines.now)) counts.new }
+fn named_lines(counts: &mut [u8; 256], lines: &Lines)
+    requires { lines.now.count ≤ 256 }
+    ensures { (xs : List ℕ) → Counted xs counts.old → Counted (xs ⧺ concat children (lines_of lines.now)) counts.new }
 {
-    for q in 0..n {
+    for q in 0..lines.count {
         named_children(counts, children_at(lines, q as u8));
     }
 }
@@ -164,25 +147,25 @@ fn all_one(counts: &[u8; 256], n: usize) -> bool
 }
 
 // How often each line is named by the m roots.
-fn named_roots(roots: &[u8; 128], m: usize) -> [u8; 256]
-    requires { m ≤ 64 }
-    ensures { Counted (map (λ x. x.line) (roots_view m roots.now)) result }
+fn named_roots(roots: &Roots) -> [u8; 256]
+    requires { roots.now.count ≤ 64 }
+    ensures { Counted (map (λ x. x.line) (roots_of roots.now)) result }
 {
     let mut counts = [0u8; 256];
-    for i in 0..m {
-        named(&mut counts, roots[ROOT * i + 1]);
+    for i in 0..roots.count {
+        named(&mut counts, roots.line(i));
     }
     counts
 }
 
 // Whether each of the n lines is named once, by a parent or by one of the m roots.
-fn named_once(lines: &[u8; 2560], n: usize, roots: &[u8; 128], m: usize) -> bool
-    requires { (n ≤ 256) × (m ≤ 64) }
-    ensures { result ≡ named_once (lines_view n lines.now) (map (λ x. x.line) (roots_view m roots.now)) }
+fn named_once(lines: &Lines, roots: &Roots) -> bool
+    requires { (lines.now.count ≤ 256) × (roots.now.count ≤ 64) }
+    ensures { result ≡ named_once (lines_of lines.now) (map (λ x. x.line) (roots_of roots.now)) }
 {
-    let mut counts = named_roots(roots, m);
-    named_lines(&mut counts, lines, n);
-    all_one(&counts, n)
+    let mut counts = named_roots(roots);
+    named_lines(&mut counts, lines);
+    all_one(&counts, lines.count)
 }
 
 // The sorts of a field's byte that name a variable: u, and `!u`.
@@ -203,13 +186,14 @@ fn var_of(code: u8, sort: u8) -> u32
 }
 
 // The variables of this sort in the first fields of line q.
-fn vars_in(lines: &[u8; 2560], q: u8, count: u8, sort: u8) -> u32
+fn vars_in(lines: &Lines, q: u8, count: u8, sort: u8) -> u32
     requires { (count ≤ 4) }
-    ensures { result ≡ joins (var_in sort) (take count (field_bytes lines.now q)) }
+    ensures { result ≡ joins (var_in sort) (take count (field_bytes lines.now.bytes q)) }
 {
+    let fields = lines.fields(q);
     let mut vars: u32 = 0;
-    for j in 0..count {
-        vars |= var_of(tables::field_at(lines, q, j), sort);
+    for j in 0..usize::from(count) {
+        vars |= var_of(fields[j], sort);
     }
     vars
 }
@@ -228,9 +212,9 @@ fn target_var(target: Loc) -> u32
 
 // The free variables of line q: those of its target and its fields, and those of the line that follows that are not bound.
 #[tactic(auto, unfolding(crate::specs::Free::free_fields, sets::specs::Bits::join, sets::specs::Bits::less, sets::specs::Bits::meet))]
-fn with_fields(lines: &[u8; 2560], q: u8, target: Loc, count: u8, binds: u8, rest: u32) -> u32
+fn with_fields(lines: &Lines, q: u8, target: Loc, count: u8, binds: u8, rest: u32) -> u32
     requires { LowLoc target × (count ≤ 4) × (binds ≤ 4) }
-    ensures { result ≡ free_fields target count binds (field_bytes lines.now q) rest }
+    ensures { result ≡ free_fields target count binds (field_bytes lines.now.bytes q) rest }
 {
     let own = target_var(target);
     let used = vars_in(lines, q, count, USED);
@@ -265,7 +249,13 @@ fn names_of(action: Action) -> Names
     match action {
         Action::Nil => Names::Ends,
         Action::Par { next, second } => Names::Forks(next, second, Loc::Here),
-        Action::Rep { next } => Names::Follows(next),
+        Action::Eval {
+            next,
+            target,
+            body,
+            ..
+        } => Names::Forks(body, next, target),
+        Action::Rep { next } | Action::Accept { next, .. } => Names::Follows(next),
         Action::Out {
             next,
             target,
@@ -275,58 +265,51 @@ fn names_of(action: Action) -> Names
             next,
             target,
             count,
-        } => Names::Fields(next, target, count, count),
-        Action::Read {
+        }
+        | Action::Read {
             next,
             target,
             count,
         } => Names::Fields(next, target, count, count),
-        Action::Eval {
-            next,
-            target,
-            body,
-            sandbox: _,
-        } => Names::Forks(body, next, target),
-        Action::Accept { next, sandbox: _ } => Names::Follows(next),
     }
 }
 
 // The free variables of the process of line q. Children have greater numbers: 256 less q falls.
-fn free_vars(lines: &[u8; 2560], n: usize, q: u8) -> u32
-    requires { InForm n lines.now q }
-    ensures { result ≡ mask_of (free (tree (lines_view n lines.now) q)) }
+fn free_vars(lines: &Lines, q: u8) -> u32
+    requires { InForm lines.now.count lines.now.bytes q }
+    ensures { result ≡ mask_of (free (tree (lines_of lines.now) q)) }
 {
-    let names = names_of(tables::action_at(lines, q));
+    let names = names_of(lines.action(q));
     match names {
         Names::Ends => 0,
-        Names::Follows(next) => free_vars(lines, n, next),
+        Names::Follows(next) => free_vars(lines, next),
         Names::Fields(next, target, count, binds) => {
-            let rest = free_vars(lines, n, next);
+            let rest = free_vars(lines, next);
             with_fields(lines, q, target, count, binds, rest)
         }
         Names::Forks(first, second, target) => {
-            let a = free_vars(lines, n, first);
-            let b = free_vars(lines, n, second);
+            let a = free_vars(lines, first);
+            let b = free_vars(lines, second);
             of_both(target, a, b)
         }
     }
 }
 
 // Whether the process of line q has no free variable.
-fn closed(lines: &[u8; 2560], n: usize, q: u8) -> bool
-    requires { InForm n lines.now q }
-    ensures { result ≡ empty (free (tree (lines_view n lines.now) q)) }
+fn closed(lines: &Lines, q: u8) -> bool
+    requires { InForm lines.now.count lines.now.bytes q }
+    ensures { result ≡ empty (free (tree (lines_of lines.now) q)) }
 {
-    free_vars(lines, n, q) == 0
+    free_vars(lines, q) == 0
 }
 
 // Whether no root has a free variable. Where each line is named once, each is walked once.
-fn roots_closed(lines: &[u8; 2560], n: usize, roots: &[u8; 128], m: usize) -> bool
-    requires { RootsIn n lines.now m roots.now }
-    ensures { result ≡ roots_closed (lines_view n lines.now) (map (λ x. x.line) (roots_view m roots.now)) }
+fn roots_closed(lines: &Lines, roots: &Roots) -> bool
+    requires { RootsIn lines.now roots.now }
+    ensures { result ≡ roots_closed (lines_of lines.now) (map (λ x. x.line) (roots_of roots.now)) }
 {
-    for i in 0..m {
-        if !closed(lines, n, roots[ROOT * i + 1]) {
+    for i in 0..roots.count {
+        if !closed(lines, roots.line(i)) {
             return false;
         }
     }
@@ -334,31 +317,25 @@ fn roots_closed(lines: &[u8; 2560], n: usize, roots: &[u8; 128], m: usize) -> bo
 }
 
 // Whether the lines are in turn and in order, with the roots among them.
-fn in_turn(turn: bool, lines: &[u8; 2560], n: usize, roots: &[u8; 128], m: usize) -> bool
-    requires { (n ≤ 256) × (m ≤ 64) }
-    ensures { result ≡ turn & ordered (lines_view n lines.now) & all (λ q. ltb q n) (map (λ x. x.line) (roots_view m roots.now)) }
+fn in_turn(turn: bool, lines: &Lines, roots: &Roots) -> bool
+    requires { (lines.now.count ≤ 256) × (roots.now.count ≤ 64) }
+    ensures { result ≡ turn & ordered (lines_of lines.now) & all (λ q. ltb q lines.now.count) (map (λ x. x.line) (roots_of roots.now)) }
 {
-    turn && in_order(lines, n) && roots_present(roots, m, n)
+    turn && in_order(lines) && roots_present(roots, lines.count)
 }
 
 // 5, 6 and 8, over a whole text: its lines in turn and in order with the roots among them, each named once, the roots closed.
-pub fn whole(
-    turn: bool,
-    lines: &[u8; 2560],
-    n: usize,
-    roots: &[u8; 128],
-    m: usize,
-) -> Result<(), Reason>
-    requires { (n ≤ 256) × (m ≤ 64) }
-    ensures { result ≡ whole_of turn (lines_view n lines.now) (map (λ x. x.line) (roots_view m roots.now)) }
+pub fn whole(turn: bool, lines: &Lines, roots: &Roots) -> Result<(), Reason>
+    requires { (lines.now.count ≤ 256) × (roots.now.count ≤ 64) }
+    ensures { result ≡ whole_of turn (lines_of lines.now) (map (λ x. x.line) (roots_of roots.now)) }
 {
-    if !in_turn(turn, lines, n, roots, m) {
+    if !in_turn(turn, lines, roots) {
         return Err(Reason::Turn);
     }
-    if !named_once(lines, n, roots, m) {
+    if !named_once(lines, roots) {
         return Err(Reason::Naming);
     }
-    if !roots_closed(lines, n, roots, m) {
+    if !roots_closed(lines, roots) {
         return Err(Reason::Free);
     }
     Ok(())

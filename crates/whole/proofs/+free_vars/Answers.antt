@@ -6,7 +6,7 @@ use Rattle.whole.proofs.+free_vars.Goals as goal
 
 pub free_vars-requires : goal.free_vars-requires
 free_vars-requires t c =
-    let d = c.action_at.ensures in
+    let d = c.action.ensures in
     let h = c.names_of-names.ensures in
     let e = c.in-Follows.is in
     let k = below_at c.requires d h e in
@@ -14,7 +14,7 @@ free_vars-requires t c =
 
 pub free_vars-rest-requires : goal.free_vars-rest-requires
 free_vars-rest-requires t c =
-    let d = c.action_at.ensures in
+    let d = c.action.ensures in
     let h = c.names_of-names.ensures in
     let e = c.in-Fields.is in
     let k = below_at c.requires d h e in
@@ -22,7 +22,7 @@ free_vars-rest-requires t c =
 
 pub with_fields-requires : goal.with_fields-requires
 with_fields-requires t c =
-    let d = c.action_at.ensures in
+    let d = c.action.ensures in
     let h = c.names_of-names.ensures in
     let e = c.in-Fields.is in
     let k = below_at c.requires d h e in
@@ -30,7 +30,7 @@ with_fields-requires t c =
 
 pub free_vars-a-requires : goal.free_vars-a-requires
 free_vars-a-requires t c =
-    let d = c.action_at.ensures in
+    let d = c.action.ensures in
     let h = c.names_of-names.ensures in
     let e = c.in-Forks.is in
     let k = below_at c.requires d h e in
@@ -38,7 +38,7 @@ free_vars-a-requires t c =
 
 pub free_vars-b-requires : goal.free_vars-b-requires
 free_vars-b-requires t c =
-    let d = c.action_at.ensures in
+    let d = c.action.ensures in
     let h = c.names_of-names.ensures in
     let e = c.in-Forks.is in
     let k = below_at c.requires d h e in
@@ -46,7 +46,7 @@ free_vars-b-requires t c =
 
 pub of_both-requires : goal.of_both-requires
 of_both-requires t c =
-    let d = c.action_at.ensures in
+    let d = c.action.ensures in
     let h = c.names_of-names.ensures in
     let e = c.in-Forks.is in
     (below_at c.requires d h e).2
@@ -54,7 +54,7 @@ of_both-requires t c =
 pub returns-in-Ends : goal.returns-in-Ends
 unfolding free_by
 returns-in-Ends t c =
-    let d = c.action_at.ensures in
+    let d = c.action.ensures in
     let h = c.names_of-names.ensures in
     let e = c.in-Ends.is in
     free_at c.requires d h e
@@ -62,7 +62,7 @@ returns-in-Ends t c =
 pub returns-in-Follows : goal.returns-in-Follows
 unfolding free_by
 returns-in-Follows t c =
-    let d = c.action_at.ensures in
+    let d = c.action.ensures in
     let h = c.names_of-names.ensures in
     let e = c.in-Follows.is in
     c.free_vars.ensures ∙ free_at c.requires d h e
@@ -70,7 +70,7 @@ returns-in-Follows t c =
 pub returns-in-Fields : goal.returns-in-Fields
 unfolding free_by
 returns-in-Fields t c =
-    let d = c.action_at.ensures in
+    let d = c.action.ensures in
     let h = c.names_of-names.ensures in
     let e = c.in-Fields.is in
     c.with_fields.ensures ∙ ap (free_fields _ _ _ _) c.free_vars-rest.ensures ∙ free_at c.requires d h e
@@ -78,7 +78,7 @@ returns-in-Fields t c =
 pub returns-in-Forks : goal.returns-in-Forks
 unfolding free_by
 returns-in-Forks t c =
-    let d = c.action_at.ensures in
+    let d = c.action.ensures in
     let h = c.names_of-names.ensures in
     let e = c.in-Forks.is in
     c.of_both.ensures ∙ ap₂ (free_forks _) c.free_vars-a.ensures c.free_vars-b.ensures ∙ free_at c.requires d h e
