@@ -16,7 +16,6 @@ use Rattle.klaim.specs.Check.{written, check_read, check}
 use Rattle.klaim.specs.Reader.{gives, refused, World, read_both}
 use Rattle.klaim.proofs.Reader.{both_read}
 use Rattle.tables.specs.View.{row_at, rows_view}
-use Rattle.tables.proofs.LineTable.{length_view}
 use Rattle.report.specs.Given.{Rooted}
 use Rattle.report.proofs.Ready.{rooted}
 use Rattle.verdict.specs.Verdict.{Judgeable}

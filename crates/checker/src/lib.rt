@@ -2,8 +2,6 @@
 #![tactic(auto)]
 
 ghost use Rattle.std.specs.Prelude.{◌≡◌, ◌≤◌, length};
-ghost use Rattle.klaim.specs.Analysis.{verdict as verdict_of};
-ghost use Rattle.klaim.specs.Report.{report as report_of};
 ghost use Rattle.klaim.specs.Check.{check_read};
 ghost use Rattle.klaim.specs.Reader.{gives};
 ghost use Rattle.worlds.specs.World.{world_view};
@@ -15,22 +13,6 @@ use tables::REPORT;
 use verdict::Verdict;
 use worlds::World;
 
-// The verdict on a net and its estimate.
-pub fn judged(w: World) -> Verdict
-    requires { WellFormed w }
-    ensures { verdict_view result ≡ verdict_of (world_view w).net (world_view w).estimate }
-{
-    verdict::judge(&w.net, &w.estimate)
-}
-
-// The report of a net and its estimate.
-pub fn reported(w: World) -> [u8; 1024]
-    requires { WellFormed w }
-    ensures { result ≡ report_of (world_view w).net (world_view w).estimate }
-{
-    report::report(&w.net, &w.estimate)
-}
-
 // The verdict on a net and its estimate that were read; the report is written where they are accepted. The buffer's further bytes stay.
 fn check_read(w: World, buffer: &mut [u8]) -> Verdict
     requires well_formed { WellFormed w }
@@ -38,9 +20,9 @@ fn check_read(w: World, buffer: &mut [u8]) -> Verdict
     ensures verdict { gives (verdict_view result) ≡ (check_read buffer.old (gives (world_view w))).answer }
     ensures buffer_after { buffer.new ≡ (check_read buffer.old (gives (world_view w))).buffer }
 {
-    let verdict = judged(w);
+    let verdict = verdict::judge(&w.net, &w.estimate);
     if let Verdict::Accepted = verdict {
-        buffer[..REPORT].copy_from_slice(&reported(w));
+        buffer[..REPORT].copy_from_slice(&report::report(&w.net, &w.estimate));
     }
     verdict
 }

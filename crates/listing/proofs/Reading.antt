@@ -22,10 +22,6 @@ use Rattle.worlds.specs.declared.World.{World}
 use Rattle.worlds.specs.World.{world_view}
 use Rattle.worlds.proofs.Rows.{both_row}
 use Rattle.checker.specs.Check.{WellFormed}
-use Rattle.checker.proofs.Laws.{sound}
-use Rattle.std.specs.Prelude.{Result, Ok, Err, MatchResult}
-use Rattle.klaim.specs.Refusals.{number_of, answer_of}
-use Rattle.klaim.specs.declared.Refusal.{Refusal}
 use Rattle.klaim.specs.Reader as Spec
 use Rattle.sets.proofs.Tables.{length_table}
 use Rattle.listing.specs.Lines.{accepted_list, Counts}

@@ -3,10 +3,9 @@
 
 ghost use Rattle.std.specs.Prelude.{◌≡◌, [], ◌∷◌, ◌+◌, ◌*◌, ◌<◌, ◌≤◌, length};
 ghost use Rattle.klaim.specs.Limits.{site_limit, report_size};
-ghost use Rattle.sets.specs.Lists.{table};
 ghost use Rattle.klaim.specs.Analysis.{accepted};
 ghost use Rattle.klaim.specs.Reader.{refused, gives};
-ghost use Rattle.klaim.specs.Listing.{numeral, row as word_row, rows_v, home_count, used_count, list_verdict, list_read, listing as listing_of};
+ghost use Rattle.klaim.specs.Listing.{numeral, row as word_row, rows_v, list_verdict, list_read, listing as listing_of};
 ghost use Rattle.worlds.specs.World.{world_view};
 ghost use Rattle.checker.specs.Check.{WellFormed};
 ghost use Rattle.writer.specs.Wrote.{Wrote};
@@ -93,32 +92,16 @@ fn put_listing<'a>(
 // The most bytes of an input.
 const INPUT: usize = 65536;
 
-// The counts of the rights that each site uses of those it holds.
-fn used(w: World) -> [u32; 32]
-    requires { WellFormed w }
-    ensures { result ≡ table 32 (used_count (world_view w)) }
-{
-    usable::used_counts(&w.net, &w.estimate)
-}
-
-// The counts of the rights that each site holds.
-fn held(w: World) -> [u32; 32]
-    ensures { result ≡ table 32 (home_count (world_view w).net) }
-{
-    counts::home_counts(&w.net)
-}
-
 // The listing of a net that is accepted.
 fn list_accepted(w: World, out: &mut [u8]) -> usize
     requires { WellFormed w × (17006 ≤ length out.old) }
     ensures wrote { Wrote out.old out.new 0 (list_verdict (world_view w) accepted) result }
     ensures upper_bound { result ≤ 17006 }
 {
-    let report = checker::reported(w);
-    let held = held(w);
-    let used = used(w);
-    let n = w.net.size;
-    put_listing(out, &report, &held, &used, n)
+    let report = report::report(&w.net, &w.estimate);
+    let held = counts::home_counts(&w.net);
+    let used = usable::used_counts(&w.net, &w.estimate);
+    put_listing(out, &report, &held, &used, w.net.size)
 }
 
 // The row of a refusal.
@@ -145,7 +128,7 @@ fn list_read(w: World, out: &mut [u8]) -> usize
     ensures wrote { Wrote out.old out.new 0 (list_read (gives (world_view w))) result }
     ensures upper_bound { result ≤ 17006 }
 {
-    match checker::judged(w) {
+    match verdict::judge(&w.net, &w.estimate) {
         Verdict::Accepted => list_accepted(w, out),
         Verdict::BrokenTuple(i) => put_break(out, b'T', i),
         Verdict::BrokenLine(q) => put_break(out, b'Q', q),
