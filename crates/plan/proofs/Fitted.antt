@@ -66,11 +66,12 @@ module _ {st : State} (f : Fits st) where
     pub plannable : Plannable st (get_or st.threads.items k no_thread)
     plannable = record { fits = f; present = omega (arith, thread_ok.present, length_view st.lines.count st.lines.bytes); placed = thread_ok.placed }
 
--- the plan for the line that a thread stands on, from that for its action
-pub plan_at : {st : State} {th : Thread} → Plannable st th → {r : Action} → Decoded st.lines.bytes th.line r → {x : Action} → r ≡ x → (k m s : ℕ) {X : Plan} → X ≡ plan (state_view st) k (thread_view th) m s (action_line x (field_bytes st.lines.bytes th.line)) → X ≡ plan (state_view st) k (thread_view th) m s (line_at (state_view st).lines th.line)
+-- the line that a thread stands on, from its action
+pub line_here : {st : State} {th : Thread} → Plannable st th → {r : Action} → Decoded st.lines.bytes th.line r → {x : Action} → r ≡ x → line_at (state_view st).lines th.line ≡ action_line x (field_bytes st.lines.bytes th.line)
 unfolding state_view
-plan_at {st} {th} p {r} d {x} e k m s h =
-    h ∙ sym (ap (plan (state_view st) k (thread_view th) m s)
-    (line_view_lem st.lines.count st.lines.bytes th.line p.present
-    ∙ sym d.line
-    ∙ ap (λ (x : Action). action_line x (field_bytes st.lines.bytes th.line)) e))
+line_here {st} {th} p d e =
+    line_view_lem st.lines.count st.lines.bytes th.line p.present ∙ sym d.line ∙ ap (λ (x : Action). action_line x (field_bytes st.lines.bytes th.line)) e
+
+-- the plan for that line, from that for its action
+pub plan_at : {st : State} {th : Thread} → Plannable st th → {r : Action} → Decoded st.lines.bytes th.line r → {x : Action} → r ≡ x → (k m s : ℕ) {X : Plan} → X ≡ plan (state_view st) k (thread_view th) m s (action_line x (field_bytes st.lines.bytes th.line)) → X ≡ plan (state_view st) k (thread_view th) m s (line_at (state_view st).lines th.line)
+plan_at {st} {th} p d e k m s h = h ∙ sym (ap (plan (state_view st) k (thread_view th) m s) (line_here p d e))

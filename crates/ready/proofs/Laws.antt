@@ -1,10 +1,10 @@
 -- Laws of the tests for a step as the code makes them.
 -- Assumes nothing.
-use mathlib.Core.Path.{◌≡◌, refl, sym, ap, ◌∙◌}
+use mathlib.Core.Path.{◌≡◌, sym, ap, ◌∙◌}
 use mathlib.Core.Bool.{Bool, true, false}
 use Prim.Native.Nat.{ℕ, ◌<◌, ◌≤◌}
 use borrow.Author.Tests.{le-ltb}
-use Rattle.sets.specs.Lists.{◌&◌, among}
+use Rattle.sets.specs.Lists.{among}
 use Rattle.sets.proofs.Lists.{lt-ltb}
 use Rattle.klaim.specs.Process.{line_at, tree}
 use Rattle.klaim.specs.Report.{door}
@@ -13,14 +13,13 @@ use Rattle.klaim.specs.State as Spec
 use Rattle.klaim.specs.Engine.{door_alone, runnable}
 use Rattle.tables.specs.View.{field_bytes, action_line, Decoded}
 use Rattle.tables.specs.declared.Action.{Action}
-use Rattle.tables.proofs.LineTable.{line_view_lem}
 use Rattle.threads.specs.declared.Thread.{Thread}
 use Rattle.threads.specs.View.{no_thread, thread_view}
 use Rattle.state.specs.declared.State.{State}
 use Rattle.state.specs.View.{state_view}
 use Rattle.state.specs.Fits.{Fits}
 use Rattle.plan.specs.Move.{Plannable}
-use Rattle.plan.proofs.Fitted.{thread_here}
+use Rattle.plan.proofs.Fitted.{thread_here, line_here}
 use Rattle.ready.specs.Runs.{runs}
 use Rattle.ready.proofs.Runnable.{runnable_is}
 use lib.ListN.{length, get_or, take}
@@ -30,12 +29,7 @@ use mathlib.Core.List.{List}
 
 -- the test for the line that a thread stands on, from that for its action
 pub runs_at : {st : State} {th : Thread} → Plannable st th → {r : Action} → Decoded st.lines.bytes th.line r → {x : Action} → r ≡ x → {b : Bool} → b ≡ runs (state_view st) (thread_view th) (action_line x (field_bytes st.lines.bytes th.line)) → b ≡ runs (state_view st) (thread_view th) (line_at (state_view st).lines th.line)
-unfolding state_view
-runs_at {st} {th} p {r} d {x} e h =
-    h ∙ sym (ap (runs (state_view st) (thread_view th))
-    (line_view_lem st.lines.count st.lines.bytes th.line p.present
-    ∙ sym d.line
-    ∙ ap (λ (x : Action). action_line x (field_bytes st.lines.bytes th.line)) e))
+runs_at {st} {th} p d e h = h ∙ sym (ap (runs (state_view st) (thread_view th)) (line_here p d e))
 
 -- thread k can make a bare step where the test says so
 pub runnable_at : {st : State} (f : Fits st) (k : ℕ) → k < st.threads.count → {b : Bool} → b ≡ runs (state_view st) (thread_view (get_or st.threads.items k no_thread)) (line_at (state_view st).lines (get_or st.threads.items k no_thread).line) → runnable (state_view st) k ≡ b
@@ -52,17 +46,6 @@ module _ (st : State) {ts : List Thread} where
 -- a lent thread can make a bare step where the test says so
 pub lent_runnable : {st : State} {ts : List Thread} (f : Fits st) → ts ≡ take st.threads.count st.threads.items → (k : ℕ) → k < st.threads.count → {b : Bool} → b ≡ runs (state_view st) (thread_view (get_or ts k no_thread)) (line_at (state_view st).lines (get_or ts k no_thread).line) → runnable (state_view st) k ≡ b
 lent_runnable {st} {ts} f e k h q = runnable_at f k h (q ∙ ap (λ (th : Thread). runs (state_view st) (thread_view th) (line_at (state_view st).lines th.line)) (lent_thread st e k h))
-
--- the two tests of an arrival, that for room first
-pub door_room : (p o : Bool) → o ≡ true → {b : Bool} → b ≡ p → b ≡ (p & o)
-unfolding ◌&◌
-door_room true o e q = q ∙ sym e
-door_room false o e q = q
-
-pub no_room : (p o : Bool) → o ≡ false → false ≡ (p & o)
-unfolding ◌&◌
-no_room true o e = sym e
-no_room false o e = refl
 
 -- the door called by itself, test by test
 module _ (st : Spec.State) (r l d : ℕ) where

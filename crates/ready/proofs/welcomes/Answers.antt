@@ -5,7 +5,7 @@ use lib.ListN.{get_or}
 use Rattle.state.specs.View.{state_view}
 use Rattle.state.proofs.Few.{arrivals_few, threads_count}
 use Rattle.ready.specs.Runs.{room, welcome}
-use Rattle.ready.proofs.Laws.{door_room, no_room}
+use Rattle.plan.proofs.Laws.{fits_sound, not_sound}
 use Rattle.ready.proofs.welcomes.Goals as goal
 
 pub bounds-state-i : goal.bounds-state-i
@@ -16,11 +16,11 @@ unfolding welcome
 returns-then-has_room c =
     let st = state_view c.args.state.now in
     let r = get_or c.args.state.now.arrivals.roots c.args.i 0 in
-    door_room _ _ (ap (λ (n : ℕ). room n st.lines c.args.a r) (threads_count c.requires.0) ∙ sym c.has_room.ensures ∙ c.if-has_room.true) c.admitted.ensures
+    c.admitted.ensures ∙ fits_sound _ _ (ap (λ (n : ℕ). room n st.lines c.args.a r) (threads_count c.requires.0) ∙ sym c.has_room.ensures ∙ c.if-has_room.true)
 
 pub returns : goal.returns
 unfolding welcome
 returns c =
     let st = state_view c.args.state.now in
     let r = get_or c.args.state.now.arrivals.roots c.args.i 0 in
-    no_room _ _ (ap (λ (n : ℕ). room n st.lines c.args.a r) (threads_count c.requires.0) ∙ sym c.has_room.ensures ∙ c.if-has_room.false)
+    not_sound _ _ (ap (λ (n : ℕ). room n st.lines c.args.a r) (threads_count c.requires.0) ∙ sym c.has_room.ensures ∙ c.if-has_room.false)
