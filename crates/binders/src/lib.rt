@@ -4,12 +4,14 @@
 ghost use Rattle.std.specs.Prelude.{◌≡◌, count_by};
 ghost use Rattle.std.specs.List.{list_all};
 ghost use Rattle.klaim.specs.Process.{clash, template};
-ghost use Rattle.lines.specs.Lines.{items, line_view};
+ghost use Rattle.klaim.specs.Fields.{items};
+ghost use Rattle.lines.specs.Lines.{line_view};
 ghost use Rattle.forms.specs.Forms.{row_data};
 ghost use Rattle.binders.specs.Binders.{names, single};
 
 use forms::Row;
-use lines::{Fields, Line};
+use klaim::Fields;
+use lines::Line;
 use text::{Field, Target};
 
 // Whether a field is u or `!u`.

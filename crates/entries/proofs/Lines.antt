@@ -25,9 +25,10 @@ use Rattle.text.specs.declared.Field.TheVariants.{Value, Binder, Wildcard}
 use Rattle.text.specs.Fields.{loc, slot}
 use Rattle.lines.specs.declared.Get.{Get}
 use Rattle.lines.specs.declared.Line.{Line}
-use Rattle.lines.specs.declared.Fields.{Fields}
+use Rattle.klaim.specs.declared.Fields.{Fields}
 use Rattle.lines.specs.declared.Line.TheVariants.{Par, Rep, Out, In, Read, Eval, Accept}
-use Rattle.lines.specs.Lines.{items, get_of, line_view}
+use Rattle.klaim.specs.Fields.{items}
+use Rattle.lines.specs.Lines.{get_of, line_view}
 use Rattle.forms.specs.declared.rows.Process.{Process}
 use Rattle.forms.specs.Forms.{process_data, sites_of}
 use Rattle.forms.specs.declared.rows.Tuple.{Tuple}

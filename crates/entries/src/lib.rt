@@ -4,13 +4,15 @@
 ghost use Rattle.std.specs.Prelude.{◌≡◌, true, ◌∷◌, [], ◌+◌, ◌%◌, ◌≤◌, ℕ, map, get_or, ltb};
 ghost use Rattle.sets.specs.Lists.{all};
 ghost use Rattle.klaim.specs.Reader.{in_limits};
-ghost use Rattle.lines.specs.Lines.{items, line_view};
+ghost use Rattle.klaim.specs.Fields.{items};
+ghost use Rattle.lines.specs.Lines.{line_view};
 ghost use Rattle.forms.specs.Forms.{process_data, sites_of, tuple_data};
 ghost use Rattle.tables.specs.View.{loc_of, line_by, line_of, row_at};
 ghost use Rattle.entries.specs.Entries.{target_code, field_code, coded};
 
 use forms::{Process, Tuple};
-use lines::{Fields, Get, Line};
+use klaim::Fields;
+use lines::{Get, Line};
 use tables::WILDCARD_CODE;
 use text::{Field, SiteName, Target};
 

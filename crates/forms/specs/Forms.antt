@@ -7,7 +7,8 @@ use Rattle.klaim.specs.Rows as Rows
 use Rattle.klaim.specs.Rows.{row_line, group_n, group_r, group_d, group_t, group_l, group_q, group_b, group_a, group_e}
 use Rattle.text.specs.Fields.{sites_to}
 use Rattle.text.specs.declared.SiteName.{SiteName}
-use Rattle.lines.specs.Lines.{items, line_view}
+use Rattle.klaim.specs.Fields.{items}
+use Rattle.lines.specs.Lines.{line_view}
 use Rattle.forms.specs.declared.rows.Group.{Group}
 use Rattle.forms.specs.declared.rows.Group.TheVariants as Groups
 use Rattle.forms.specs.declared.rows.Pair.{Pair}

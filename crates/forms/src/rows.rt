@@ -2,7 +2,8 @@
 ghost use Rattle.std.specs.Prelude.{◌<◌};
 ghost use Rattle.text.specs.Fields.{unsaid};
 
-use lines::{Fields, Line};
+use klaim::Fields;
+use lines::Line;
 use text::{SiteName, Toward};
 
 // The groups of rows, in the order of document 01.

@@ -13,11 +13,12 @@ use Rattle.klaim.specs.Process.{boxes_of, slots_of, sites_in, used_in, bound_in}
 use Rattle.text.specs.declared.SiteName.{SiteName}
 use Rattle.text.specs.declared.Target.{Target}
 use Rattle.text.specs.Fields.{loc, slot}
-use Rattle.lines.specs.declared.Fields.{Fields}
+use Rattle.klaim.specs.declared.Fields.{Fields}
 use Rattle.lines.specs.declared.Get.{Get}
 use Rattle.lines.specs.declared.Line.{Line}
 use Rattle.lines.specs.declared.Line.TheVariants.{Nil, Par, Rep, Out, In, Read, Eval, Accept}
-use Rattle.lines.specs.Lines.{items, get_of, line_view}
+use Rattle.klaim.specs.Fields.{items}
+use Rattle.lines.specs.Lines.{get_of, line_view}
 use Rattle.judge.proofs.Tests.{all_cat, all_and, all_concat}
 
 -- a line of another kind

@@ -8,11 +8,13 @@ ghost use Rattle.klaim.specs.declared.Slot.TheVariants.{Value};
 ghost use Rattle.klaim.specs.Process.{boxes_of, children, sites_in, used_in, bound_in, slots_of};
 ghost use Rattle.klaim.specs.Reader.{in_limits, absent};
 ghost use Rattle.text.specs.Fields.{loc, slot, sites_to};
-ghost use Rattle.lines.specs.Lines.{items, line_view};
+ghost use Rattle.klaim.specs.Fields.{items};
+ghost use Rattle.lines.specs.Lines.{line_view};
 ghost use Rattle.forms.specs.Forms.{process_data, row_data, sites_of};
 
 use forms::{Pair, Process, Row, Tuple};
-use lines::{Fields, Line};
+use klaim::Fields;
+use lines::Line;
 use text::{Field, SiteName, Target, Toward};
 
 // The limits of document 01: of sites, variables and sandboxes, and of lines.

@@ -5,6 +5,7 @@ pub mod Rows
 pub mod Net
 pub mod Reader
 pub mod Refusals
+pub mod Fields
 pub mod Analysis
 pub mod Report
 pub mod Check

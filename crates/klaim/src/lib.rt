@@ -1,8 +1,9 @@
 //! The names that targets and fields are made of. The definitions of documents 01 and 02 stand in specs/.
 #![tactic(auto)]
 
-ghost use Rattle.std.specs.Prelude.{◌≡◌};
+ghost use Rattle.std.specs.Prelude.{◌≡◌, ◌≤◌, length, map};
 ghost use Rattle.klaim.specs.Refusals.{number_of};
+ghost use Rattle.klaim.specs.Fields.{items};
 
 // "A site number and a variable number are different sorts": Loc and LocVar of document 001.
 #[derive(Clone, Copy)]
@@ -25,6 +26,45 @@ pub enum Slot {
     Value(Loc),
     Bind(Var),
     Wildcard,
+}
+
+// The fields of a tuple or a template: one to four.
+#[derive(Clone, Copy)]
+pub enum Fields<T> {
+    One([T; 1]),
+    Two([T; 2]),
+    Three([T; 3]),
+    Four([T; 4]),
+}
+
+impl<T> Fields<T> {
+    pub fn as_slice(&self) -> &[T]
+        ensures value { result.now ≡ items self.now }
+        ensures some { 1 ≤ length result.now }
+        ensures few { length result.now ≤ 4 }
+    {
+        match self {
+            Fields::One(a) => a,
+            Fields::Two(a) => a,
+            Fields::Three(a) => a,
+            Fields::Four(a) => a,
+        }
+    }
+}
+
+impl<T: Copy> Fields<T> {
+    // What f makes of each of them.
+    pub fn map<U, F: Fn(T) -> U>(self, f: F) -> Fields<U>
+        requires { F.IsAlwaysCallable f }
+        ensures { (g : T → U) → ((x : T) (y : U) → F.post f x y → y ≡ g x) → items result ≡ map g (items self) }
+    {
+        match &self {
+            Fields::One([a]) => Fields::One([f(*a)]),
+            Fields::Two([a, b]) => Fields::Two([f(*a), f(*b)]),
+            Fields::Three([a, b, c]) => Fields::Three([f(*a), f(*b), f(*c)]),
+            Fields::Four([a, b, c, d]) => Fields::Four([f(*a), f(*b), f(*c), f(*d)]),
+        }
+    }
 }
 
 // Why a call is refused; the discriminant is the number of documents 01 and 02.

@@ -4,19 +4,11 @@ use Rattle.std.specs.Prelude.{List, map, ℕ}
 use Rattle.klaim.specs.declared.Loc.{Loc}
 use Rattle.klaim.specs.declared.Slot.{Slot}
 use Rattle.klaim.specs.Process as Spec
+use Rattle.klaim.specs.Fields.{items}
 use Rattle.text.specs.Fields.{loc, slot}
-use Rattle.lines.specs.declared.Fields.{Fields}
-use Rattle.lines.specs.declared.Fields.TheVariants.{One, Two, Three, Four}
 use Rattle.lines.specs.declared.Get.{Get}
 use Rattle.lines.specs.declared.Line.{Line}
 use Rattle.lines.specs.declared.Line.TheVariants.{Nil, Par, Rep, Out, In, Read, Eval, Accept}
-
--- the fields as a list
-abbrev pub items : {T : Type 0} → Fields T → List T
-items (One xs) = xs
-items (Two xs) = xs
-items (Three xs) = xs
-items (Four xs) = xs
 
 -- a line of `in` or `read`
 unfoldable pub get_of : (ℕ → Loc → List Slot → Spec.Line) → Get → Spec.Line

@@ -7,33 +7,11 @@ ghost use Rattle.klaim.specs.Process.{In, Read};
 ghost use Rattle.klaim.specs.Rows.{split, comma, at, loc_field, fields, line_nil, line_par, line_rep, line_out, line_get, line_eval, line_accept, line_form};
 ghost use Rattle.text.specs.Pieces.{edge_limit};
 ghost use Rattle.text.specs.Fields.{loc};
-ghost use Rattle.lines.specs.Lines.{items, get_of, line_view};
+ghost use Rattle.klaim.specs.Fields.{items};
+ghost use Rattle.lines.specs.Lines.{get_of, line_view};
 
+use klaim::Fields;
 use text::{CutRow, Field, Spoken, Target};
-
-// The fields of a tuple or a template: one to four.
-#[derive(Clone, Copy)]
-pub enum Fields<T> {
-    One([T; 1]),
-    Two([T; 2]),
-    Three([T; 3]),
-    Four([T; 4]),
-}
-
-impl<T> Fields<T> {
-    pub fn as_slice(&self) -> &[T]
-        ensures value { result.now ≡ items self.now }
-        ensures some { 1 ≤ length result.now }
-        ensures few { length result.now ≤ 4 }
-    {
-        match self {
-            Fields::One(a) => a,
-            Fields::Two(a) => a,
-            Fields::Three(a) => a,
-            Fields::Four(a) => a,
-        }
-    }
-}
 
 // The fields of a row from k on.
 pub fn fields_at<T: Spoken>(row: &CutRow, k: usize) -> Option<Fields<T>>

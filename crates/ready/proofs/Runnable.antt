@@ -10,7 +10,7 @@ use native.Mathlib.Nat.{min-eq_left}
 use lib.Dec.{eqb, leb, ltb}
 use lib.ListN.{length, get_elem?, length-append}
 use Rattle.sets.specs.Lists.{Elem, first, later, ◌&◌, either, any, only, keep, splice, below, table, table_from, among, ◌⧺◌}
-use Rattle.threads.proofs.Splice.{splice_long}
+use Rattle.sets.proofs.Splice.{splice_long}
 use Rattle.sets.specs.Bits.{out_bit, in_bit, read_bit, eval_bit, accept_bit}
 use Rattle.sets.proofs.Lists.{and_l, and_r, and_i, iff, any_at, any_i, in_any, eq-eqb, leb_le, le-leb, ltb_lt, lt-ltb, among_in}
 use Rattle.klaim.specs.declared.Loc.{Loc}

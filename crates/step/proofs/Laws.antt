@@ -27,7 +27,7 @@ use Rattle.tuples.proofs.Rows.{rows_long}
 use Rattle.threads.specs.declared.Threads.{Threads}
 use Rattle.threads.specs.View.{no_thread, thread_view, threads_of}
 use Rattle.threads.proofs.Laws.{thread_none}
-use Rattle.threads.proofs.Splice.{splice_long}
+use Rattle.sets.proofs.Splice.{splice_long}
 use Rattle.state.specs.declared.Event.{Event as Outcome}
 use Rattle.state.specs.declared.State.{State}
 use Rattle.state.specs.View.{state_view, result_view, gone_on}

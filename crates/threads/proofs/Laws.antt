@@ -25,7 +25,7 @@ use Rattle.klaim.specs.State as Spec
 use Rattle.klaim.specs.Engine.{value, under, permits}
 use Rattle.threads.specs.declared.Thread.{Thread}
 use Rattle.threads.specs.View.{no_thread, bindings_view, thread_view, threads_view}
-use Rattle.threads.proofs.Splice.{get_some, get_none, map_some, splice_set, map_splice, moved_all}
+use Rattle.sets.proofs.Splice.{get_some, get_none, map_some, splice_set, map_splice, moved_all}
 
 -- variable u, bound or not
 pub bound_at : (bs : List (Told Site)) (u : ℕ) {o : Told Site} → get_or bs u None ≡ o → get_or (bindings_view bs) u none ≡ option_of (λ s. s.0) o

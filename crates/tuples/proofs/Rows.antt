@@ -13,7 +13,7 @@ use Rattle.sets.proofs.Tables.{get_or_table, length_table}
 use Rattle.tables.specs.View.{row_at, rows_view}
 use Rattle.tables.proofs.Bytes.{row_same}
 use Rattle.tuples.specs.Rows.{Moved}
-use Rattle.threads.proofs.Splice.{get_some, get_none, splice_long, splice_low, splice_high}
+use Rattle.sets.proofs.Splice.{get_some, get_none, splice_long, splice_low, splice_high}
 
 -- how many tuples, and the one at place k
 pub rows_long : (n : ℕ) (bs : List ℕ) → length (rows_view n bs) ≡ n

@@ -7,7 +7,8 @@ use Rattle.klaim.specs.declared.Slot.TheVariants.{Value}
 use Rattle.klaim.specs.Process.{slots_of, bound_in}
 use Rattle.text.specs.declared.Target.{Target}
 use Rattle.text.specs.Fields.{loc, slot}
-use Rattle.lines.specs.Lines.{items, line_view, get_of}
+use Rattle.klaim.specs.Fields.{items}
+use Rattle.lines.specs.Lines.{line_view, get_of}
 use Rattle.judge.proofs.Tests.{both_yes, both_no}
 use Rattle.judge.proofs.Lines.{no_slots, out_slots, get_slots, sites_behind}
 use Rattle.judge.proofs.low_line.Goals as goal

@@ -2,7 +2,7 @@ use mathlib.Core.Path.{◌≡◌, sym, ap, subst, ◌∙◌}
 use Prim.Native.Nat.{◌<◌}
 use native.Mathlib.Omega.{arith}
 use lib.ListN.{length}
-use Rattle.threads.proofs.Splice.{length_mapped}
+use Rattle.sets.proofs.Splice.{length_mapped}
 use Rattle.tables.specs.View.{tuples_of}
 use Rattle.tuples.specs.Rows.{Padded}
 use Rattle.places.proofs.Places.{rows_put}

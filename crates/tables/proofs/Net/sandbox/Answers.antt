@@ -4,4 +4,4 @@ use Rattle.tables.proofs.Net.sandbox.Goals as goal
 
 pub returns : goal.returns
 unfolding box
-returns c = refl
+returns c = rw (c.from.ensures, c.from-2.ensures) refl

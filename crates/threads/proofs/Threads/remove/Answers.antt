@@ -5,7 +5,7 @@ use Prim.Native.Nat.{◌+◌, ◌-◌}
 use lib.ListN.{length}
 use Rattle.sets.proofs.Tables.{filled_more}
 use Rattle.threads.specs.View.{no_thread}
-use Rattle.threads.proofs.Splice.{length_mapped, splice_high, moved_none}
+use Rattle.sets.proofs.Splice.{length_mapped, splice_high, moved_none}
 use Rattle.threads.proofs.Laws.{remove_view}
 use Rattle.threads.proofs.Threads.remove.Goals as goal
 

@@ -1,7 +1,7 @@
 use mathlib.Core.Path.{◌≡◌}
 use native.Mathlib.Omega.{arith}
 use lib.ListN.{length}
-use Rattle.threads.proofs.Splice.{length_mapped}
+use Rattle.sets.proofs.Splice.{length_mapped}
 use Rattle.threads.proofs.Laws.{replace_view}
 use Rattle.threads.proofs.Threads.replace.Goals as goal
 
