@@ -1,5 +1,7 @@
-use mathlib.Core.Path.{refl}
-use Rattle.klaim.specs.Rows.{split, comma, given, ◌>>=◌}
+use mathlib.Core.Path.{◌≡◌, refl}
+use mathlib.Core.Option.{none}
+use lib.ListN.{drop}
+use Rattle.klaim.specs.Rows.{split, comma, fields, loc_field, given, ◌>>=◌}
 use Rattle.lines.specs.Lines.{line_view}
 use Rattle.lines.proofs.LineKinds.{out_at}
 use Rattle.lines.proofs.read_out.Goals as goal
@@ -14,7 +16,10 @@ returns-in_err-target c = rw (c.from_residual-in_err-target.ensures, out_at (spl
 
 pub returns-in_err-fields : goal.returns-in_err-fields
 unfolding given ◌>>=◌ line_view
-returns-in_err-fields c = rw (c.from_residual-in_err-fields.ensures, out_at (split comma c.args.row.now.bytes.now), ← c.in_ok-next.ensures, ← c.in_ok-target.ensures, ← c.in_err-fields.ensures) refl
+returns-in_err-fields c =
+    let fs = split comma c.args.row.now.bytes.now in
+    let said : none ≡ fields loc_field (drop 5 fs) = c.in_err-fields.ensures in
+    rw (c.from_residual-in_err-fields.ensures, out_at fs, ← c.in_ok-next.ensures, ← c.in_ok-target.ensures, ← said) refl
 
 pub returns : goal.returns
 unfolding given ◌>>=◌ line_view
