@@ -253,13 +253,7 @@ fn singles(tuple: &Tuple) -> [u32; 5]
     requires { all_below 32 (tuple_view tuple.now) ≡ true }
     ensures { take (length (tuple_view tuple.now)) result ≡ map (λ v. 2 ^ v) (tuple_view tuple.now) }
 {
-    sets_of(
-        &tuple.fields,
-        sets::single(tuple.site),
-        |v|
-            requires { v < 32 }
-        { sets::single(v) },
-    )
+    sets_of(&tuple.fields, sets::single(tuple.site), |v| sets::single(v))
 }
 
 // Whether the tuple is one of the rows.
