@@ -1,8 +1,8 @@
 -- Laws of a table with an entry more, with another entry, or with one entry less, by what its entries stand for.
 -- Assumes nothing.
 use mathlib.Core.Path.{◌≡◌, refl, sym, ap, ◌∙◌}
-use mathlib.Core.List.{List, [], ◌∷◌, ◌++◌}
-use Prim.Native.Nat.{ℕ, suc, ◌+◌, ◌-◌, ◌<◌, ◌≤◌}
+use mathlib.Core.List.{List, [], ◌∷◌, ◌++◌, map}
+use Prim.Native.Nat.{ℕ, suc, ◌+◌, ◌<◌, ◌≤◌}
 use native.Mathlib.Omega.{arith}
 use native.Mathlib.Numerals.{add-one}
 use native.Mathlib.Decide.{ℕ_discrete, dec_lt}
@@ -10,14 +10,18 @@ use lib.ListN.{length, get_or, set, length-set}
 use lib.Seq.{get_or-set_same, get_or-set_other, ext_get_or}
 use Rattle.sets.specs.Lists.{splice, table}
 use Rattle.sets.proofs.Splice.{splice_long, splice_low, splice_high, splice_set}
-use Rattle.sets.proofs.Tables.{get_or_table, length_table, same_table, table_snoc}
+use Rattle.sets.proofs.Tables.{list_table, map_table, get_or_table, length_table, same_table, table_snoc}
 use Rattle.tables.specs.declared.table.Table.{Table}
-use Rattle.tables.specs.Entries.{Removed}
+use Rattle.tables.specs.Entries.{entries, Removed}
 
 module _ {A B : Type 0} {N : ℕ} (f : A → B) (d : A) where
   -- what the entries stand for
   abbrev pub viewed : Table A N → List B
   viewed t = table t.count (λ k. f (get_or t.items k d))
+
+  -- the same by the list of the entries
+  pub viewed_map : (t : Table A N) → viewed t ≡ map f (entries t)
+  viewed_map t = sym (ap (map f) (list_table d t.count t.items (omega (arith, t.few, t.long))) ∙ map_table f t.count (λ k. get_or t.items k d))
 
   -- one more
   pub pushed : (old new : Table A N) (x : A) → old.count < N → new.items ≡ set old.items old.count x → new.count ≡ old.count + 1 → viewed new ≡ viewed old ++ (f x ∷ [])

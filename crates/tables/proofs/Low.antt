@@ -3,7 +3,6 @@
 use mathlib.Core.Path.{◌≡◌}
 use mathlib.Core.Bool.{Bool, true}
 use mathlib.Core.List.{List, [], ◌∷◌}
-use Prim.Native.Nat.{◌<◌}
 use Rattle.sets.specs.Lists.{All, done, more, all}
 use Rattle.sets.proofs.Lists.{ltb_lt, and_l, and_r}
 use Rattle.klaim.specs.Fields.{items}

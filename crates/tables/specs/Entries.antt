@@ -1,6 +1,6 @@
 -- The entries of a table.
 -- Assumes nothing.
-use Rattle.std.specs.Prelude.{◌≡◌, List, [], ℕ, suc, ◌+◌, ◌<◌, ◌≤◌, get_or, take}
+use Rattle.std.specs.Prelude.{◌≡◌, List, ℕ, suc, ◌+◌, ◌<◌, ◌≤◌, get_or, take}
 use Rattle.tables.specs.declared.table.Table.{Table}
 
 -- the entries that stand in a table

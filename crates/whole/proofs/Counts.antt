@@ -2,7 +2,7 @@
 -- Assumes nothing.
 use mathlib.Core.Path.{◌≡◌, refl, sym, ap, subst, ◌∙◌}
 use mathlib.Core.List.{List, [], ◌∷◌, map, map-append}
-use Prim.Native.Nat.{ℕ, zero, suc, ◌+◌, ◌*◌, ◌<◌, ◌≤◌, min}
+use Prim.Native.Nat.{ℕ, zero, suc, ◌+◌, ◌<◌, min}
 use native.Mathlib.Omega.{arith}
 use native.Mathlib.Decide.{ℕ_discrete}
 use lib.Dec.{eqb}
@@ -16,8 +16,8 @@ use Rattle.sets.proofs.Runs.{cat_none, cat_assoc, concat_append, concat_one}
 use Rattle.klaim.specs.Process.{children}
 use Rattle.klaim.specs.Net.{Root}
 use Rattle.klaim.specs.Reader.{named_once}
-use Rattle.tables.specs.View.{line_of, lines_view, root_at}
-use Rattle.tables.proofs.LineTable.{length_view}
+use Rattle.tables.specs.View.{Lines, Roots, line_of, lines_of, root_at}
+use Rattle.tables.proofs.LineTable.{lines_long}
 use Rattle.whole.specs.declared.Children.{Children}
 use Rattle.whole.specs.declared.Children.TheVariants.{Zero, One, Two}
 use Rattle.whole.specs.Children.{list_of}
@@ -70,35 +70,35 @@ module _ {cs : Children} (xs : List ℕ) {counts : List ℕ} where
   children_two {a} {b} e C = rw e (subst (λ (l : List ℕ). Counted l counts) (cat_assoc xs (a ∷ []) (b ∷ []) ∙ ap (λ (l : List ℕ). xs ⧺ l) (pair a b)) C)
 
 -- a loop over lines, and over roots
-pub lines_more : (xs : List ℕ) {r : List ℕ} (bs : List ℕ) (q k : ℕ) (cs : List ℕ) → suc q ≡ k → cs ≡ children (line_of bs q) → Counted ((xs ⧺ concat children (table q (line_of bs))) ⧺ cs) r → Counted (xs ⧺ concat children (table k (line_of bs))) r
-lines_more xs {r} bs q k cs e h C = subst (λ (l : List ℕ). Counted l r) same C
+pub lines_more : (xs : List ℕ) {r : List ℕ} (t : Lines) (q k : ℕ) (cs : List ℕ) → suc q ≡ k → cs ≡ children (line_of t q) → Counted ((xs ⧺ concat children (table q (line_of t))) ⧺ cs) r → Counted (xs ⧺ concat children (table k (line_of t))) r
+lines_more xs {r} t q k cs e h C = subst (λ (l : List ℕ). Counted l r) same C
   where
-    same : (xs ⧺ concat children (table q (line_of bs))) ⧺ cs ≡ xs ⧺ concat children (table k (line_of bs))
+    same : (xs ⧺ concat children (table q (line_of t))) ⧺ cs ≡ xs ⧺ concat children (table k (line_of t))
     same =
-        cat_assoc xs (concat children (table q (line_of bs))) cs
+        cat_assoc xs (concat children (table q (line_of t))) cs
         ∙ ap (λ (l : List ℕ). xs ⧺ l)
-        (ap (λ (l : List ℕ). concat children (table q (line_of bs)) ⧺ l) (h ∙ sym (concat_one children (line_of bs q)))
-        ∙ sym (concat_append children (table q (line_of bs)) (line_of bs q ∷ []))
-        ∙ ap (concat children) (sym (table_snoc q (line_of bs)) ∙ ap (λ (n : ℕ). table n (line_of bs)) e))
+        (ap (λ (l : List ℕ). concat children (table q (line_of t)) ⧺ l) (h ∙ sym (concat_one children (line_of t q)))
+        ∙ sym (concat_append children (table q (line_of t)) (line_of t q ∷ []))
+        ∙ ap (concat children) (sym (table_snoc q (line_of t)) ∙ ap (λ (n : ℕ). table n (line_of t)) e))
 
-pub lines_none : (xs : List ℕ) {r : List ℕ} (bs : List ℕ) → Counted xs r → Counted (xs ⧺ concat children (table 0 (line_of bs))) r
+pub lines_none : (xs : List ℕ) {r : List ℕ} (t : Lines) → Counted xs r → Counted (xs ⧺ concat children (table 0 (line_of t))) r
 unfolding concat table table_from
-lines_none xs bs C = rw (cat_none xs) C
+lines_none xs t C = rw (cat_none xs) C
 
-abbrev pub root_lines : ℕ → List ℕ → List ℕ
+abbrev pub root_lines : ℕ → Roots → List ℕ
 root_lines m rs = map (λ (x : Root). x.line) (table m (root_at rs))
 
-pub roots_none : {r : List ℕ} (rs : List ℕ) → Counted [] r → Counted (root_lines 0 rs) r
+pub roots_none : {r : List ℕ} (rs : Roots) → Counted [] r → Counted (root_lines 0 rs) r
 unfolding table table_from
 roots_none rs C = C
 
-pub roots_more : {r : List ℕ} (rs : List ℕ) (i k : ℕ) → suc i ≡ k → Counted (root_lines i rs ⧺ (get_or rs (2 * i + 1) 0 ∷ [])) r → Counted (root_lines k rs) r
+pub roots_more : {r : List ℕ} (rs : Roots) (i k : ℕ) → suc i ≡ k → Counted (root_lines i rs ⧺ ((root_at rs i).line ∷ [])) r → Counted (root_lines k rs) r
 unfolding root_at
 roots_more {r} rs i k e C = subst (λ (l : List ℕ). Counted l r) same C
   where
-    same : root_lines i rs ⧺ (get_or rs (2 * i + 1) 0 ∷ []) ≡ root_lines k rs
+    same : root_lines i rs ⧺ ((root_at rs i).line ∷ []) ≡ root_lines k rs
     same =
-        cat_append (root_lines i rs) (get_or rs (2 * i + 1) 0 ∷ [])
+        cat_append (root_lines i rs) ((root_at rs i).line ∷ [])
         ∙ sym (map-append (λ (x : Root). x.line) (table i (root_at rs)) (root_at rs i ∷ []))
         ∙ ap (map (λ (x : Root). x.line)) (sym (table_snoc i (root_at rs)) ∙ ap (λ (n : ℕ). table n (root_at rs)) e)
 
@@ -111,8 +111,8 @@ capped (suc (suc c)) = ap (λ (n : ℕ). eqb n 1) high ∙ sym (ne_eqb (suc (suc
     high : min (suc (suc c)) 2 ≡ 2
     high = omega arith
 
-pub once_by : (n : ℕ) (bs xs : List ℕ) {cs : List ℕ} → n ≤ 256 → Counted (xs ⧺ concat children (lines_view n bs)) cs → all (λ q. eqb (get_or cs q 0) 1) (below n) ≡ named_once (lines_view n bs) xs
+pub once_by : (t : Lines) (xs : List ℕ) {cs : List ℕ} → Counted (xs ⧺ concat children (lines_of t)) cs → all (λ q. eqb (get_or cs q 0) 1) (below t.count) ≡ named_once (lines_of t) xs
 unfolding named_once
-once_by n bs xs h C =
-    all_same _ _ (below n) (λ q i. ap (λ (c : ℕ). eqb c 1) (C.times q (omega (arith, in_below n q i))) ∙ capped (count q (xs ⧺ concat children (lines_view n bs))))
-    ∙ ap (λ (k : ℕ). all (λ q. eqb (count q (xs ⧺ concat children (lines_view n bs))) 1) (below k)) (sym (length_view n bs))
+once_by t xs C =
+    all_same _ _ (below t.count) (λ q i. ap (λ (c : ℕ). eqb c 1) (C.times q (omega (arith, in_below t.count q i, t.few))) ∙ capped (count q (xs ⧺ concat children (lines_of t))))
+    ∙ ap (λ (k : ℕ). all (λ q. eqb (count q (xs ⧺ concat children (lines_of t))) 1) (below k)) (sym (lines_long t))

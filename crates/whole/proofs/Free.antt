@@ -1,33 +1,31 @@
 -- Laws of free variables as sets of numbers.
 -- Assumes nothing.
-use mathlib.Core.Path.{◌≡◌, refl, sym, ap, ap₂, subst, ◌∙◌}
-use mathlib.Core.Bool.{Bool, true, false, not, cond, false≢true}
-use mathlib.Core.List.{List, [], ◌∷◌, map, map-map}
-use Prim.Native.Nat.{ℕ, zero, suc, ◌/◌, ◌%◌, ◌^◌, ◌<◌, ◌≤◌}
-use native.Mathlib.Omega.{arith}
+use mathlib.Core.Path.{◌≡◌, refl, sym, ap, ap₂, ◌∙◌}
+use mathlib.Core.Bool.{Bool, not, false≢true}
+use mathlib.Core.List.{List, [], ◌∷◌, ◌++◌, map}
+use Prim.Native.Nat.{ℕ, ◌+◌, ◌^◌, ◌<◌}
+use lib.ListN.{length, get_or, take}
+use Rattle.std.proofs.lemmas.List.{take_more}
 use lib.Dec.{eqb}
-use lib.ListN.{length, get_or, take, drop, length-take, drop_of_length-le}
-use lib.Seq.{drop-cons, get_or-take}
 use borrow.Author.Tests.{ne_eqb}
-use Rattle.sets.specs.Lists.{◌&◌, either, any, empty, concat, among, ◌⧺◌}
-use Rattle.sets.proofs.Lists.{iff, eqb_eq, and_i, and_l, and_r, in_keep, keep_out, among_in, in_among}
-use Rattle.sets.specs.Bits.{in_bit, read_bit, has, join, less, grant, joins}
-use Rattle.sets.proofs.Bits.{has_or, has_none, has_self, or_has_l, same_bits, mem_one, has_rest, less_none}
+use Rattle.sets.specs.Lists.{All, done, more, ◌&◌, either, any, empty, concat, among, ◌⧺◌}
+use Rattle.sets.proofs.Lists.{iff, and_i, and_l, and_r, in_keep, keep_out, among_in, in_among}
+use Rattle.sets.specs.Bits.{has, join, less, joins}
+use Rattle.sets.proofs.Bits.{has_or, has_none, has_self, or_has_l, same_bits, mem_one, has_rest}
 use Rattle.sets.proofs.Joins.{join_none, join_none_r, join_assoc}
+use Rattle.sets.proofs.Runs.{concat_append, concat_one}
 use Rattle.klaim.specs.declared.Site.{Site}
 use Rattle.klaim.specs.declared.Var.{Var}
 use Rattle.klaim.specs.declared.Loc.{Loc}
 use Rattle.klaim.specs.declared.Loc.TheVariants.{At, Here, Use}
 use Rattle.klaim.specs.declared.Slot.{Slot}
 use Rattle.klaim.specs.declared.Slot.TheVariants.{Value, Bind, Wildcard}
-use Rattle.klaim.specs.Process.{used_in, bound_in, Tree, out_t, get_t, node, tree, without, free}
+use Rattle.klaim.specs.Process.{Tree, par_t, out_t, get_t, eval_t, node, tree, used_in, bound_in, without, free}
 use Rattle.tables.specs.declared.Action.{Action}
-use Rattle.tables.specs.declared.Action.TheVariants.{Nil, Par, Rep, Out, In, Read, Eval, Accept}
-use Rattle.tables.specs.View.{loc_of, slot_of, field_bytes, lines_view, action_line, LowLoc, Decoded, InForm}
-use Rattle.tables.proofs.LineTable.{tree_at, Child, Next, next}
-use Rattle.whole.specs.declared.Names.{Names}
-use Rattle.whole.specs.declared.Names.TheVariants.{Ends, Follows, Fields, Forks}
-use Rattle.whole.specs.Free.{mask_of, var_in, free_fields, free_forks, names_of}
+use Rattle.tables.specs.Low.{LowLoc, LowSlot}
+use Rattle.tables.specs.View.{Lines, lines_of, action_line, ActionAt, InForm}
+use Rattle.tables.proofs.LineTable.{tree_at}
+use Rattle.whole.specs.Free.{mask_of}
 
 -- the set of a list has its elements
 pub mask_has : (xs : List ℕ) (n : ℕ) → has (mask_of xs) (2 ^ n) ≡ among xs n
@@ -62,143 +60,96 @@ mask_without us xs =
     mask_has (without us xs) n ∙ among_without us xs n
     ∙ sym (has_rest (mask_of xs) (mask_of us) n ∙ ap₂ (λ (a b : Bool). a & not b) (mask_has xs n) (mask_has us n)))
 
--- the set of the variables of many fields
-mask_fields : {A : Type 0} (f : A → List ℕ) (g : ℕ → A) (k : ℕ) → ((c : ℕ) → mask_of (f (g c)) ≡ var_in k c) → (cs : List ℕ) → mask_of (concat f (map g cs)) ≡ joins (var_in k) cs
-unfolding concat joins
-mask_fields f g k h [] = mask_none
-mask_fields f g k h (c ∷ cs) = mask_cat (f (g c)) (concat f (map g cs)) ∙ ap₂ join (h c) (mask_fields f g k h cs)
+pub none_free : 0 ≡ mask_of []
+none_free = sym mask_none
 
--- the variable of a byte by its sort
+pub no_fields : (f : Slot → List ℕ) → 0 ≡ mask_of (concat f [])
+unfolding concat
+no_fields f = sym mask_none
+
 pub mask_one : (u : ℕ) → mask_of (u ∷ []) ≡ 2 ^ u
 unfolding mask_of joins
 mask_one u = join_none_r (2 ^ u)
 
-sort_used : (x n : ℕ) → x < 4 → mask_of (used_in (Value (cond (eqb x 0) (At (record { 0 = n })) (cond (eqb x 2) (Use (record { 0 = n })) Here)))) ≡ grant (eqb x 2) (2 ^ n)
-unfolding used_in grant
-sort_used zero n h = mask_none
-sort_used (suc zero) n h = mask_none
-sort_used (suc (suc zero)) n h = mask_one n
-sort_used (suc (suc (suc zero))) n h = mask_none
-sort_used (suc (suc (suc (suc x)))) n h = absurd (omega arith)
+-- the variables of one field more
+pub fields_more : (f : Slot → List ℕ) (xs : List Slot) (x : Slot) → mask_of (concat f (xs ++ (x ∷ []))) ≡ join (mask_of (concat f xs)) (mask_of (f x))
+fields_more f xs x =
+    ap mask_of (concat_append f xs (x ∷ []) ∙ ap (λ (l : List ℕ). concat f xs ⧺ l) (concat_one f x)) ∙ mask_cat (concat f xs) (f x)
 
-used_loc : (c : ℕ) → mask_of (used_in (Value (loc_of c))) ≡ var_in 2 c
-unfolding loc_of var_in
-used_loc c = sort_used (c / 32 % 4) (c % 32) (omega arith)
+module _ (f : Slot → List ℕ) (xs : List Slot) (j : ℕ) (h : j < length xs) (d : Slot) where
+  pub field_more : mask_of (concat f (take (j + 1) xs)) ≡ join (mask_of (concat f (take j xs))) (mask_of (f (get_or xs j d)))
+  field_more = ap (λ (l : List Slot). mask_of (concat f l)) (take_more xs j d h) ∙ fields_more f (take j xs) (get_or xs j d)
 
-sort_slot : (x n : ℕ) (l : Loc) → x < 4 → mask_of (used_in (Value l)) ≡ grant (eqb x 2) (2 ^ n) → mask_of (used_in (cond (eqb x 3) (Bind (record { 0 = n })) (Value l))) ≡ grant (eqb x 2) (2 ^ n)
-unfolding used_in grant
-sort_slot zero n l b h = h
-sort_slot (suc zero) n l b h = h
-sort_slot (suc (suc zero)) n l b h = h
-sort_slot (suc (suc (suc zero))) n l b h = mask_none
-sort_slot (suc (suc (suc (suc x)))) n l b h = absurd (omega arith)
+  pub field_adds : {s : Slot} {m : ℕ} → get_or xs j d ≡ s → m ≡ mask_of (f s) → join (mask_of (concat f (take j xs))) m ≡ mask_of (concat f (take (j + 1) xs))
+  field_adds e n = sym (field_more ∙ ap (λ (s : Slot). join (mask_of (concat f (take j xs))) (mask_of (f s))) e ∙ ap (join (mask_of (concat f (take j xs)))) (sym n))
 
--- a byte that may be that of `_`, which names no variable
-wildcard_or : (f : Slot → ℕ) (k c : ℕ) → f Wildcard ≡ var_in k 128 → {s : Slot} → f s ≡ var_in k c → f (cond (eqb c 128) Wildcard s) ≡ var_in k c
-wildcard_or f k c w {s} h = go (eqb c 128) refl
-  where
-    go : (b : Bool) → eqb c 128 ≡ b → f (cond b Wildcard s) ≡ var_in k c
-    go true e = w ∙ ap (var_in k) (sym (eqb_eq e))
-    go false e = h
+  pub field_none : {s : Slot} → get_or xs j d ≡ s → mask_of (f s) ≡ 0 → mask_of (concat f (take j xs)) ≡ mask_of (concat f (take (j + 1) xs))
+  field_none e n = sym (join_none_r _) ∙ field_adds e (sym n)
 
-used_slot : (c : ℕ) → mask_of (used_in (slot_of c)) ≡ var_in 2 c
-unfolding slot_of var_in used_in grant
-used_slot c = wildcard_or (λ s. mask_of (used_in s)) 2 c mask_none (sort_slot (c / 32 % 4) (c % 32) (loc_of c) (omega arith) (used_loc c))
+-- the variables of each sort of field
+pub value_bound : (x : Loc) → mask_of (bound_in (Value x)) ≡ 0
+unfolding bound_in
+value_bound x = mask_none
 
-sort_bound : (b : Bool) (n : ℕ) (l : Loc) → mask_of (bound_in (cond b (Bind (record { 0 = n })) (Value l))) ≡ grant b (2 ^ n)
-unfolding bound_in grant
-sort_bound true n l = mask_one n
-sort_bound false n l = mask_none
+pub binder_used : (u : Var) → mask_of (used_in (Bind u)) ≡ 0
+unfolding used_in
+binder_used u = mask_none
 
-bound_slot : (c : ℕ) → mask_of (bound_in (slot_of c)) ≡ var_in 3 c
-unfolding slot_of var_in bound_in grant
-bound_slot c = wildcard_or (λ s. mask_of (bound_in s)) 3 c mask_none (sort_bound (eqb (c / 32 % 4) 3) (c % 32) (loc_of c))
+pub binder_bound : (u : Var) → 2 ^ u.0 ≡ mask_of (bound_in (Bind u))
+unfolding bound_in
+binder_bound u = sym (mask_one u.0)
 
--- a loop that gathers sets from the last to the first
-pub joins_end : (f : ℕ → ℕ) (xs : List ℕ) (k : ℕ) → 0 ≡ joins f (drop k (take k xs))
-unfolding joins
-joins_end f xs k = sym (ap (joins f) (drop_of_length-le (take k xs) {i = k} (omega (arith, length-take k xs))))
+pub wildcard_used : mask_of (used_in Wildcard) ≡ 0
+unfolding used_in
+wildcard_used = mask_none
 
-pub joins_down : (f : ℕ → ℕ) (xs : List ℕ) (k j i : ℕ) {r : ℕ} → k ≤ length xs → j < k → suc j ≡ i → r ≡ joins f (drop i (take k xs)) → join (f (get_or xs j 0)) r ≡ joins f (drop j (take k xs))
-unfolding joins
-joins_down f xs k j i h l e g =
-    ap₂ join (ap f (sym (get_or-take k xs j 0 l))) (g ∙ ap (λ (i : ℕ). joins f (drop i (take k xs))) (sym e))
-    ∙ sym (ap (joins f) (drop-cons (take k xs) j 0 (omega (arith, length-take k xs))))
+pub wildcard_bound : mask_of (bound_in Wildcard) ≡ 0
+unfolding bound_in
+wildcard_bound = mask_none
 
 -- the variable of a target
-pub target_site : {x : Loc} {s : Site} → x ≡ At s → 0 ≡ mask_of (used_in (Value x))
+pub at_used : (s : Site) → 0 ≡ mask_of (used_in (Value (At s)))
 unfolding used_in
-target_site e = sym (ap (λ (x : Loc). mask_of (used_in (Value x))) e ∙ mask_none)
+at_used s = sym mask_none
 
-pub target_here : {x : Loc} → x ≡ Here → 0 ≡ mask_of (used_in (Value x))
+pub here_used : 0 ≡ mask_of (used_in (Value Here))
 unfolding used_in
-target_here e = sym (ap (λ (x : Loc). mask_of (used_in (Value x))) e ∙ mask_none)
+here_used = sym mask_none
 
-pub target_use : {x : Loc} {u : Var} → x ≡ Use u → 2 ^ u.0 ≡ mask_of (used_in (Value x))
+pub use_used : (u : Var) → 2 ^ u.0 ≡ mask_of (used_in (Value (Use u)))
 unfolding used_in
-target_use {u = u} e = sym (ap (λ (x : Loc). mask_of (used_in (Value x))) e ∙ mask_one u.0)
+use_used u = sym (mask_one u.0)
 
--- what the recursion meets in each arm: the children, and numbers within limits
-abbrev pub Below : ℕ → List ℕ → ℕ → Names → Type 0
-Below n bs q Ends = Unit {0}
-Below n bs q (Follows a) = Child n bs q a × Unit {0}
-Below n bs q (Fields a g k m) = Child n bs q a × LowLoc g × (k ≤ 4) × (m ≤ 4)
-Below n bs q (Forks a b g) = Child n bs q a × Child n bs q b × LowLoc g
+-- the fields of an `out` as slots
+pub slots_low : (xs : List Loc) → All LowLoc xs → All LowSlot (map Value xs)
+slots_low [] h = done
+slots_low (x ∷ xs) (more p h) = more p (slots_low xs h)
 
-below_of : (n : ℕ) (bs : List ℕ) (q : ℕ) (x : Action) → Next n bs q x → Below n bs q (names_of x)
-unfolding names_of
-below_of n bs q Nil h = tt
-below_of n bs q (Par a b) h = (h.0, h.1, tt)
-below_of n bs q (Rep a) h = h
-below_of n bs q (Out a g k) h = (h.0, h.1, h.2, omega arith)
-below_of n bs q (In a g k) h = (h.0, h.1, h.2, h.2)
-below_of n bs q (Read a g k) h = (h.0, h.1, h.2, h.2)
-below_of n bs q (Eval a g b k) h = (h.2, h.0, h.1)
-below_of n bs q (Accept a k) h = (h.0, tt)
+-- a target and fields
+pub with_target : (g : Loc) (ss : List Slot) → mask_of (concat used_in (Value g ∷ ss)) ≡ join (mask_of (used_in (Value g))) (mask_of (concat used_in ss))
+unfolding concat
+with_target g ss = mask_cat (used_in (Value g)) (concat used_in ss)
 
--- the free variables of a line, its children's processes given by their numbers
-unfoldable pub free_by : (ℕ → Tree) → List ℕ → Names → ℕ
-free_by f cs Ends = 0
-free_by f cs (Follows a) = mask_of (free (f a))
-free_by f cs (Fields a g k m) = free_fields g k m cs (mask_of (free (f a)))
-free_by f cs (Forks a b g) = free_forks g (mask_of (free (f a))) (mask_of (free (f b)))
+-- the free variables of a process, by those of its parts
+module _ (q : ℕ) (g : Loc) (a : Tree) where
+  pub out_free : (fs : List Loc) → join (mask_of (concat used_in (map Value (g ∷ fs)))) (mask_of (free a)) ≡ mask_of (free (out_t q g fs a))
+  unfolding free
+  out_free fs = sym (mask_cat (concat used_in (map Value (g ∷ fs))) (free a))
 
--- the free variables of `in` and `read`
-get_free : (q r : ℕ) (g : Loc) (cs : List ℕ) (a : Tree) → join (join (mask_of (used_in (Value g))) (joins (var_in 2) cs)) (less (mask_of (free a)) (joins (var_in 3) cs)) ≡ mask_of (free (get_t q r g (map slot_of cs) a))
-unfolding free concat
-get_free q r g cs a =
-    sym (mask_cat (concat used_in (Value g ∷ map slot_of cs)) (without (concat bound_in (map slot_of cs)) (free a))
-    ∙ ap₂ join (mask_cat (used_in (Value g)) (concat used_in (map slot_of cs)) ∙ ap (join (mask_of (used_in (Value g)))) (mask_fields used_in slot_of 2 used_slot cs))
-    (mask_without (concat bound_in (map slot_of cs)) (free a) ∙ ap (less (mask_of (free a))) (mask_fields bound_in slot_of 3 bound_slot cs)))
+  pub get_free : (right : ℕ) (ss : List Slot) → join (mask_of (concat used_in (Value g ∷ ss))) (less (mask_of (free a)) (mask_of (concat bound_in ss))) ≡ mask_of (free (get_t q right g ss a))
+  unfolding free
+  get_free right ss =
+      ap (join (mask_of (concat used_in (Value g ∷ ss)))) (sym (mask_without (concat bound_in ss) (free a)))
+      ∙ sym (mask_cat (concat used_in (Value g ∷ ss)) (without (concat bound_in ss) (free a)))
 
-out_free : (q : ℕ) (g : Loc) (cs : List ℕ) (a : Tree) → join (join (mask_of (used_in (Value g))) (joins (var_in 2) cs)) (less (mask_of (free a)) 0) ≡ mask_of (free (out_t q g (map loc_of cs) a))
-unfolding free concat
-out_free q g cs a =
-    sym (mask_cat (concat used_in (map Value (g ∷ map loc_of cs))) (free a)
-    ∙ ap₂ join (mask_cat (used_in (Value g)) (concat used_in (map Value (map loc_of cs))) ∙ ap (join (mask_of (used_in (Value g)))) (mask_values cs))
-    (sym (less_none (mask_of (free a)))))
-  where
-    mask_values : (cs : List ℕ) → mask_of (concat used_in (map Value (map loc_of cs))) ≡ joins (var_in 2) cs
-    mask_values cs = ap (λ (l : List Slot). mask_of (concat used_in l)) (map-map Value loc_of cs) ∙ mask_fields used_in (λ c. Value (loc_of c)) 2 used_loc cs
+  pub eval_free : (k : ℕ) (b : Tree) → join (mask_of (used_in (Value g))) (join (mask_of (free b)) (mask_of (free a))) ≡ mask_of (free (eval_t q g k b a))
+  unfolding free
+  eval_free k b = ap (join (mask_of (used_in (Value g)))) (sym (mask_cat (free b) (free a))) ∙ sym (mask_cat (used_in (Value g)) (free b ⧺ free a))
 
-free_of : (f : ℕ → Tree) (q : ℕ) (cs : List ℕ) (x : Action) → free_by f cs (names_of x) ≡ mask_of (free (node f q (action_line x cs)))
-unfolding free_by free_fields free_forks names_of free node action_line joins used_in
-free_of f q cs Nil = sym mask_none
-free_of f q cs (Par a b) = ap (λ (m : ℕ). join m (join (mask_of (free (f a))) (mask_of (free (f b))))) mask_none ∙ join_none _ ∙ sym (mask_cat (free (f a)) (free (f b)))
-free_of f q cs (Rep a) = refl
-free_of f q cs (Out a g k) = out_free q g (take k cs) (f a)
-free_of f q cs (In a g k) = get_free q in_bit g (take k cs) (f a)
-free_of f q cs (Read a g k) = get_free q read_bit g (take k cs) (f a)
-free_of f q cs (Eval a g b k) = sym (mask_cat (used_in (Value g)) (free (f b) ⧺ free (f a)) ∙ ap (join (mask_of (used_in (Value g)))) (mask_cat (free (f b)) (free (f a))))
-free_of f q cs (Accept a k) = refl
+pub par_free : (a b : Tree) → join (mask_of (free a)) (mask_of (free b)) ≡ mask_of (free (par_t a b))
+unfolding free
+par_free a b = sym (mask_cat (free a) (free b))
 
--- line q by the variables that it names
-module _ {n : ℕ} {bs : List ℕ} {q : ℕ} (w : InForm n bs q) {r : Action} (d : Decoded bs q r) {p x : Names} (h : p ≡ names_of r) (e : p ≡ x) where
-  pub below_at : Below n bs q x
-  below_at = subst (Below n bs q) (sym h ∙ e) (below_of n bs q r (next w d refl))
-
-  pub free_at : free_by (tree (lines_view n bs)) (field_bytes bs q) x ≡ mask_of (free (tree (lines_view n bs) q))
-  free_at =
-      ap (free_by (tree (lines_view n bs)) (field_bytes bs q)) (sym e ∙ h)
-      ∙ free_of (tree (lines_view n bs)) q (field_bytes bs q) r
-      ∙ ap (λ (t : Tree). mask_of (free t)) (sym (tree_at w d refl))
+-- the free variables of line q, by what it does
+pub free_at : {t : Lines} {q : ℕ} → InForm t q → {r : Action} → ActionAt t q r → {x : Action} → r ≡ x → mask_of (free (node (tree (lines_of t)) q (action_line x))) ≡ mask_of (free (tree (lines_of t) q))
+free_at w d e = ap (λ (p : Tree). mask_of (free p)) (sym (tree_at w d e))

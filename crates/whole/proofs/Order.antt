@@ -2,11 +2,10 @@
 -- Assumes nothing.
 use mathlib.Core.Path.{◌≡◌, refl, sym, ap, ◌∙◌}
 use mathlib.Core.Bool.{Bool, true, false}
-use mathlib.Core.List.{List, map}
-use Prim.Native.Nat.{ℕ, zero, suc, ◌+◌, ◌*◌, ◌<◌, ◌≤◌}
+use mathlib.Core.List.{map}
+use Prim.Native.Nat.{ℕ, zero, suc, ◌<◌, ◌≤◌}
 use native.Mathlib.Omega.{arith}
 use lib.Dec.{ltb}
-use lib.ListN.{get_or}
 use borrow.Author.Tests.{lt-ltb, le-ltb}
 use Rattle.sets.specs.Lists.{◌&◌, all, empty, table_from, table}
 use Rattle.sets.proofs.Lists.{ltb_lt, and_true, all_map}
@@ -14,10 +13,8 @@ use Rattle.sets.proofs.Tables.{table_all}
 use Rattle.klaim.specs.Process.{children, ordered_from, ordered, tree, free}
 use Rattle.klaim.specs.Net.{Root}
 use Rattle.klaim.specs.Reader.{roots_closed}
-use Rattle.tables.specs.declared.Lines.{Lines}
-use Rattle.tables.specs.declared.Roots.{Roots}
-use Rattle.tables.specs.View.{line_of, lines_view, root_at, roots_view, InForm}
-use Rattle.tables.proofs.LineTable.{length_view}
+use Rattle.tables.specs.View.{Lines, Roots, line_of, lines_of, root_at, roots_of, InForm}
+use Rattle.tables.proofs.LineTable.{lines_long}
 use Rattle.whole.specs.declared.Children.{Children}
 use Rattle.whole.specs.declared.Children.TheVariants.{Zero, One, Two}
 use Rattle.whole.specs.Children.{list_of}
@@ -51,35 +48,35 @@ module _ (f : ℕ → Bool) {cs : Children} where
   unfolding all list_of ◌&◌
   test_not e t = rw (e, t)
 
--- line q names greater lines, each below n
-abbrev pub fits : List ℕ → ℕ → ℕ → Bool
-fits bs n q = all (λ c. ltb q c & ltb c n) (children (line_of bs q))
+-- line q names greater lines, each one of the lines
+abbrev pub fits : Lines → ℕ → Bool
+fits t q = all (λ c. ltb q c & ltb c t.count) (children (line_of t q))
 
-order_from : (k i n : ℕ) (bs : List ℕ) → ordered_from i n (table_from k i (line_of bs)) ≡ all (fits bs n) (table_from k i (λ j. j))
+order_from : (t : Lines) (k i : ℕ) → ordered_from i t.count (table_from k i (line_of t)) ≡ all (fits t) (table_from k i (λ j. j))
 unfolding ordered_from all table_from
-order_from zero i n bs = refl
-order_from (suc k) i n bs = ap (λ (b : Bool). fits bs n i & b) (order_from k (suc i) n bs)
+order_from t zero i = refl
+order_from t (suc k) i = ap (λ (b : Bool). fits t i & b) (order_from t k (suc i))
 
-pub order_all : (n : ℕ) (bs : List ℕ) → ordered (lines_view n bs) ≡ all (fits bs n) (table n (λ j. j))
-unfolding ordered lines_view table
-order_all n bs = ap (λ (k : ℕ). ordered_from 0 k (table_from n 0 (line_of bs))) (length_view n bs) ∙ order_from n 0 n bs
+pub order_all : (t : Lines) → ordered (lines_of t) ≡ all (fits t) (table t.count (λ j. j))
+unfolding ordered lines_of table
+order_all t = ap (λ (k : ℕ). ordered_from 0 k (table_from t.count 0 (line_of t))) (lines_long t) ∙ order_from t t.count 0
 
 -- the tests of the roots
-pub present_all : (n m : ℕ) (rs : List ℕ) → all (λ q. ltb q n) (map (λ (x : Root). x.line) (roots_view m rs)) ≡ all (λ (x : Root). ltb x.line n) (table m (root_at rs))
-unfolding roots_view
-present_all n m rs = all_map (λ q. ltb q n) (λ x. x.line) (table m (root_at rs))
+pub present_all : (n : ℕ) (rs : Roots) → all (λ q. ltb q n) (map (λ (x : Root). x.line) (roots_of rs)) ≡ all (λ (x : Root). ltb x.line n) (table rs.count (root_at rs))
+unfolding roots_of
+present_all n rs = all_map (λ q. ltb q n) (λ x. x.line) (table rs.count (root_at rs))
 
 -- the process of root x has no free variable
-abbrev pub closed_root : ℕ → List ℕ → Root → Bool
-closed_root n bs x = empty (free (tree (lines_view n bs) x.line))
+abbrev pub closed_root : Lines → Root → Bool
+closed_root t x = empty (free (tree (lines_of t) x.line))
 
-pub closed_all : (n : ℕ) (bs : List ℕ) (m : ℕ) (rs : List ℕ) → roots_closed (lines_view n bs) (map (λ (x : Root). x.line) (roots_view m rs)) ≡ all (closed_root n bs) (table m (root_at rs))
-unfolding roots_closed roots_view
-closed_all n bs m rs = all_map (λ q. empty (free (tree (lines_view n bs) q))) (λ x. x.line) (table m (root_at rs))
+pub closed_all : (t : Lines) (rs : Roots) → roots_closed (lines_of t) (map (λ (x : Root). x.line) (roots_of rs)) ≡ all (closed_root t) (table rs.count (root_at rs))
+unfolding roots_closed roots_of
+closed_all t rs = all_map (λ q. empty (free (tree (lines_of t) q))) (λ x. x.line) (table rs.count (root_at rs))
 
 -- the line of root i
-pub root_form : {ls : Lines} {rs : Roots} → RootsIn ls rs → (i : ℕ) → i < rs.count → InForm ls.count ls.bytes (root_at rs.bytes i).line
-root_form {ls} {rs} w i h = record {
+pub root_form : {t : Lines} {rs : Roots} → RootsIn t rs → (i : ℕ) → i < rs.count → InForm t (root_at rs i).line
+root_form {t} {rs} w i h = record {
   in_order = w.in_order;
-  present = ltb_lt (root_at rs.bytes i).line ls.count (table_all (λ (x : Root). ltb x.line ls.count) rs.count (root_at rs.bytes) (sym (present_all ls.count rs.count rs.bytes) ∙ w.present) i h);
+  present = ltb_lt (root_at rs i).line t.count (table_all (λ (x : Root). ltb x.line t.count) rs.count (root_at rs) (sym (present_all t.count rs) ∙ w.present) i h);
 }

@@ -1,6 +1,5 @@
--- `free_vars` meets its contract: at each action the set is what the definition says of the line's process. 256 less the line number falls.
+-- `free_vars` meets its contract: 256 less the line number falls.
 -- Assumes nothing.
-use Prim.Native.Nat.{◌-◌}
 use Prim.Native.Nat.{◌-◌}
 use Rattle.whole.proofs.+free_vars.Given as goal
 

@@ -12,16 +12,16 @@ loop-q-preserved c =
     let at = c.loop-q in
     let ar = c.args in
     let e : suc at.q ≡ at.q + 1 = omega arith in
-    at.invariant ∙ all_yes (fits ar.lines.now.bytes ar.lines.now.count) ar.lines.now.count (λ j. j) at.q (at.q + 1) (omega arith) e (sym (c.children_fit.ensures ∙ ap (all (λ k. ltb at.q k & ltb k ar.lines.now.count)) c.children_at.ensures) ∙ c.if-not-children_fit.false)
+    at.invariant ∙ all_yes (fits ar.lines.now) ar.lines.now.count (λ j. j) at.q (at.q + 1) (omega arith) e (sym (c.children_fit.ensures ∙ ap (all (λ k. ltb at.q k & ltb k ar.lines.now.count)) c.children_at.ensures) ∙ c.if-not-children_fit.false)
 
 pub returns-then-not-children_fit : goal.returns-then-not-children_fit
 returns-then-not-children_fit c =
     let at = c.loop-q in
     let ar = c.args in
-    sym (order_all ar.lines.now.count ar.lines.now.bytes ∙ at.invariant ∙ all_no (fits ar.lines.now.bytes ar.lines.now.count) ar.lines.now.count (λ j. j) at.q (omega arith) (sym (c.children_fit.ensures ∙ ap (all (λ k. ltb at.q k & ltb k ar.lines.now.count)) c.children_at.ensures) ∙ c.if-not-children_fit.true))
+    sym (order_all ar.lines.now ∙ at.invariant ∙ all_no (fits ar.lines.now) ar.lines.now.count (λ j. j) at.q (omega arith) (sym (c.children_fit.ensures ∙ ap (all (λ k. ltb at.q k & ltb k ar.lines.now.count)) c.children_at.ensures) ∙ c.if-not-children_fit.true))
 
 pub returns : goal.returns
 returns c =
     let at = c.loop-q in
     let ar = c.args in
-    sym (order_all ar.lines.now.count ar.lines.now.bytes ∙ at.invariant ∙ all_end (fits ar.lines.now.bytes ar.lines.now.count) ar.lines.now.count (λ j. j) at.q (omega arith))
+    sym (order_all ar.lines.now ∙ at.invariant ∙ all_end (fits ar.lines.now) ar.lines.now.count (λ j. j) at.q (omega arith))

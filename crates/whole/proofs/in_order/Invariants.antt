@@ -5,4 +5,4 @@ use Rattle.whole.proofs.Order.{fits}
 use Rattle.whole.proofs.in_order.Given as goal
 
 abbrev pub invariant-loop-q : goal.invariant-loop-q
-invariant-loop-q l = all (fits l.lines.bytes l.lines.count) (table l.lines.count (λ j. j)) ≡ all (fits l.lines.bytes l.lines.count) (drop l.q (table l.lines.count (λ j. j)))
+invariant-loop-q l = all (fits l.lines) (table l.lines.count (λ j. j)) ≡ all (fits l.lines) (drop l.q (table l.lines.count (λ j. j)))

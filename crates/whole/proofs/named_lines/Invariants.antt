@@ -7,4 +7,4 @@ use Rattle.whole.specs.Counted.{Counted}
 use Rattle.whole.proofs.named_lines.Given as goal
 
 abbrev pub invariant-loop-q : goal.invariant-loop-q
-invariant-loop-q l = (xs : List ℕ) → Counted xs l.initial.counts → Counted (xs ⧺ concat children (table l.q (line_of l.lines.bytes))) l.counts
+invariant-loop-q l = (xs : List ℕ) → Counted xs l.initial.counts → Counted (xs ⧺ concat children (table l.q (line_of l.lines))) l.counts

@@ -6,4 +6,4 @@ use Rattle.whole.proofs.Order.{closed_root}
 use Rattle.whole.proofs.roots_closed.Given as goal
 
 abbrev pub invariant-loop-i : goal.invariant-loop-i
-invariant-loop-i l = all (closed_root l.lines.count l.lines.bytes) (table l.roots.count (root_at l.roots.bytes)) ≡ all (closed_root l.lines.count l.lines.bytes) (drop l.i (table l.roots.count (root_at l.roots.bytes)))
+invariant-loop-i l = all (closed_root l.lines) (table l.roots.count (root_at l.roots)) ≡ all (closed_root l.lines) (drop l.i (table l.roots.count (root_at l.roots)))

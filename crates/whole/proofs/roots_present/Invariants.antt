@@ -7,4 +7,4 @@ use Rattle.tables.specs.View.{root_at}
 use Rattle.whole.proofs.roots_present.Given as goal
 
 abbrev pub invariant-loop-i : goal.invariant-loop-i
-invariant-loop-i l = all (λ (x : Root). ltb x.line l.n) (table l.roots.count (root_at l.roots.bytes)) ≡ all (λ (x : Root). ltb x.line l.n) (drop l.i (table l.roots.count (root_at l.roots.bytes)))
+invariant-loop-i l = all (λ (x : Root). ltb x.line l.n) (table l.roots.count (root_at l.roots)) ≡ all (λ (x : Root). ltb x.line l.n) (drop l.i (table l.roots.count (root_at l.roots)))
