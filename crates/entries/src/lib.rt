@@ -1,19 +1,19 @@
 //! A row as the entry of its table.
 #![tactic(auto)]
 
-ghost use Rattle.std.specs.Prelude.{◌≡◌, true, ◌%◌, ltb};
+ghost use Rattle.std.specs.Prelude.{◌≡◌, true, ◌%◌, ◌<◌, ltb};
 ghost use Rattle.sets.specs.Lists.{all};
-ghost use Rattle.klaim.specs.Reader.{in_limits};
+ghost use Rattle.klaim.specs.Reader.{in_limits, root_of};
 ghost use Rattle.text.specs.Fields.{loc, slot};
 ghost use Rattle.lines.specs.Lines.{line_view};
-ghost use Rattle.forms.specs.Forms.{process_data, sites_of};
-ghost use Rattle.tables.specs.View.{action_line, tuple_view};
+ghost use Rattle.forms.specs.Forms.{process_data, root_data, sites_of};
+ghost use Rattle.tables.specs.View.{action_line, tuple_view, root_view};
 ghost use Rattle.entries.specs.Entries.{cut_loc, cut_slot};
 
 use forms::Process;
 use klaim::{Loc, Site, Slot, Var};
 use lines::Line;
-use tables::{Action, Tuple};
+use tables::{Action, Root, Tuple};
 use text::{Field, SiteName, Target};
 
 // How many numbers a byte can hold.
@@ -125,5 +125,18 @@ pub fn tuple(tuple: &forms::Tuple) -> Tuple
     Tuple {
         site: byte(tuple.site),
         fields: tuple.fields.map(site),
+    }
+}
+
+// The root of an L row.
+#[tactic(auto, unfolding(klaim::specs::Reader::root_of, forms::specs::Forms::root_data))]
+pub fn root(root: &forms::Root) -> Root
+    requires site_low { root.now.site < 32 }
+    requires line_low { root.now.line < 256 }
+    ensures { root_view result ≡ root_of (root_data root.now) }
+{
+    Root {
+        site: root.site as u8,
+        line: root.line as u8,
     }
 }
