@@ -1,23 +1,19 @@
--- The bytes that a row puts into its table.
+-- Names whose numbers are cut to a byte.
 -- Assumes nothing.
-use Rattle.std.specs.Prelude.{List, [], ◌∷◌, ℕ, ◌+◌, ◌%◌, get_or, take}
-use Rattle.text.specs.declared.Target.{Target}
-use Rattle.text.specs.declared.Target.TheVariants.{Site, Here, Variable}
-use Rattle.text.specs.declared.Field.{Field}
-use Rattle.text.specs.declared.Field.TheVariants.{Value, Binder, Wildcard}
+use Rattle.std.specs.Prelude.{◌%◌}
+use Rattle.klaim.specs.declared.Loc.{Loc}
+use Rattle.klaim.specs.declared.Loc.TheVariants.{At, Here, Use}
+use Rattle.klaim.specs.declared.Slot.{Slot}
+use Rattle.klaim.specs.declared.Slot.TheVariants.{Value, Bind, Wildcard}
 
--- a target as a byte: site s is s, `self` 32, variable u 64 + u
-abbrev pub target_code : Target → ℕ
-target_code (Site s) = s % 32
-target_code Here = 32
-target_code (Variable u) = 64 + u % 32
+-- a target, its number modulo 256: no number within its limit changes
+abbrev pub cut_loc : Loc → Loc
+cut_loc (At s) = At (record { 0 = s.0 % 256 })
+cut_loc Here = Here
+cut_loc (Use u) = Use (record { 0 = u.0 % 256 })
 
--- a field as a byte: `!u` is 96 + u, `_` 128
-abbrev pub field_code : Field → ℕ
-field_code (Value x) = target_code x
-field_code (Binder u) = 96 + u % 32
-field_code Wildcard = 128
-
--- at most four fields, behind their number
-abbrev pub coded : List ℕ → List ℕ
-coded bs = take (get_or bs 0 0) (get_or bs 1 0 ∷ get_or bs 2 0 ∷ get_or bs 3 0 ∷ get_or bs 4 0 ∷ [])
+-- a field, likewise
+abbrev pub cut_slot : Slot → Slot
+cut_slot (Value x) = Value (cut_loc x)
+cut_slot (Bind u) = Bind (record { 0 = u.0 % 256 })
+cut_slot Wildcard = Wildcard

@@ -1,5 +1,4 @@
 pub mod Marks
 pub mod Rows
 pub mod Repeats
-pub mod Roots
 pub mod Keys

@@ -1,12 +1,14 @@
 -- The rows above the one that is read.
 -- Assumes nothing.
-use Rattle.std.specs.Prelude.{◌≡◌, Bool, true, cond, List, [], ◌∷◌, map, ℕ, ◌+◌, ◌*◌, eqb, ltb, replicate, take}
+use Rattle.std.specs.Prelude.{◌≡◌, Bool, true, List, [], ◌∷◌, map, ℕ, ◌+◌, ◌*◌, eqb, replicate}
 use Rattle.sets.specs.Lists.{◌&◌}
 use Rattle.klaim.specs.Limits.{boxes_size}
 use Rattle.klaim.specs.Rows.{Row}
 use Rattle.klaim.specs.Net.{Root}
 use Rattle.klaim.specs.Reader.{in_limits, of_group}
 use Rattle.text.specs.Fields.{unsaid}
+use Rattle.tables.specs.declared.table.Table.{Table}
+use Rattle.tables.specs.Entries.{entries}
 use Rattle.forms.specs.declared.rows.Row as Form
 use Rattle.forms.specs.Forms.{row_data}
 
@@ -29,10 +31,9 @@ unfoldable pub tuple_key : List ℕ → ℕ
 tuple_key [] = 1
 tuple_key (x ∷ xs) = x + 32 * tuple_key xs
 
--- a site in front of the key of those behind it, if it is one of the first n
-unfoldable pub key_step : ℕ → ℕ → ℕ → ℕ → ℕ
-key_step i n site rest = cond (ltb i n) (site + 32 * rest) 1
-
 -- the keys of the tuples of a group above
-pub record KeysAre (g : ℕ) (above : List Row) (keys : List ℕ) (n : ℕ) : Type 0 where
-  pub is : take n keys ≡ map (λ r. tuple_key r.sites) (of_group g above)
+abbrev pub Keys : Type 0
+Keys = Table ℕ 256
+
+pub record KeysAre (g : ℕ) (above : List Row) (keys : Keys) : Type 0 where
+  pub is : entries keys ≡ map (λ r. tuple_key r.sites) (of_group g above)

@@ -5,4 +5,4 @@ use Rattle.sets.specs.Lists.{any}
 use Rattle.repeats.proofs.has_key.Given as goal
 
 abbrev pub invariant-loop-key : goal.invariant-loop-key
-invariant-loop-key l = l.found ≡ any (λ x. eqb x l.k) (take l.key-index (take l.n l.keys))
+invariant-loop-key l = l.found ≡ any (λ x. eqb x l.k) (take l.key-index l.key-items)

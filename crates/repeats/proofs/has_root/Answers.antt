@@ -1,31 +1,24 @@
-use Rattle.sets.proofs.Shared.{any_yes, any_no, any_end}
+use mathlib.Core.Path.{sym, ap, ◌∙◌}
+use mathlib.Core.Bool.{Bool}
+use Rattle.std.proofs.Common.{rules, tests}
+use Rattle.std.proofs.lemmas.Iterator.{YieldsList-from_slice}
+use Rattle.std.proofs.lemmas.Iterator.Search.{any_from_yields_List}
+use Rattle.sets.specs.Lists.{any, ◌&◌}
+use Rattle.tables.specs.declared.Root.{Root}
+use Rattle.tables.specs.Entries.{entries}
+use Rattle.tables.specs.View.{root_view, no_root, root_at, roots_of}
+use Rattle.tables.proofs.Entries.{viewed_map}
 use Rattle.repeats.specs.Kept.{root_same}
-use Rattle.tables.specs.View.{root_at, roots_view}
-use native.Mathlib.Omega.{arith}
-use Prim.Native.Nat.{suc, ◌+◌}
-use mathlib.Core.Path.{◌≡◌, refl, sym, ◌∙◌}
+use Rattle.repeats.proofs.Marks.{any_map}
+use Rattle.repeats.proofs.Keys.{any_list}
 use Rattle.repeats.proofs.has_root.Goals as goal
 
-pub loop-i-init : goal.loop-i-init
-loop-i-init c = refl
-
-pub returns-then-root_is : goal.returns-then-root_is
-unfolding roots_view
-returns-then-root_is c =
-    let at = c.loop-i in
-    let ar = c.args in
-    sym (at.invariant ∙ any_yes (root_same ar.s ar.q) ar.n (root_at ar.roots.now) at.i (omega arith) (sym c.root_is.ensures ∙ c.if-root_is.true))
-
-pub loop-i-preserved : goal.loop-i-preserved
-loop-i-preserved c =
-    let at = c.loop-i in
-    let ar = c.args in
-    let e : suc at.i ≡ at.i + 1 = omega arith in
-    at.invariant ∙ any_no (root_same ar.s ar.q) ar.n (root_at ar.roots.now) at.i (at.i + 1) (omega arith) e (sym c.root_is.ensures ∙ c.if-root_is.false)
-
 pub returns : goal.returns
-unfolding roots_view
+unfolding roots_of root_at root_same ◌&◌
 returns c =
-    let at = c.loop-i in
-    let ar = c.args in
-    sym (at.invariant ∙ any_end (root_same ar.s ar.q) ar.n (root_at ar.roots.now) at.i (omega arith))
+    let p : Root → Bool = λ x. root_same c.args.s c.args.q (root_view x) in
+    let xs = entries c.args.roots.now in
+    any_from_yields_List p _ _ _ c.any.ensures.ran (YieldsList-from_slice c.as_slice.result.now c.iter.ensures.rest) (λ x b q k. search (rules, tests))
+    ∙ any_list p c.as_slice.result.now
+    ∙ ap (any p) c.as_slice.ensures
+    ∙ sym (ap (any (root_same c.args.s c.args.q)) (viewed_map root_view no_root c.args.roots.now) ∙ any_map (root_same c.args.s c.args.q) root_view xs)

@@ -1,6 +1,8 @@
 use mathlib.Core.Path.{ap, ◌∙◌}
+use Prim.Native.Nat.{◌+◌, ◌*◌}
 use Rattle.repeats.specs.Kept.{tuple_key}
 use Rattle.repeats.proofs.key.Goals as goal
 
 pub returns : goal.returns
-returns c = c.key_of.ensures ∙ ap tuple_key c.tuple_bytes.ensures
+unfolding tuple_key
+returns c = c.key_step.ensures ∙ ap (λ k. c.tuple-tuple.result.site + 32 * k) c.fields_key.ensures.key ∙ ap tuple_key c.tuple-tuple.ensures

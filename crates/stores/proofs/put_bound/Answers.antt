@@ -4,4 +4,4 @@ use Rattle.stores.proofs.put_bound.Goals as goal
 
 pub returns : goal.returns
 unfolding join
-returns c = bound_put c.args.bound.now c.args.t.now _ _ c.from-at.ensures c.requires.variable_low c.single-site.ensures
+returns c = bound_put c.args.bound.now c.args.t.now _ _ c.from.ensures c.requires.variable_low c.single.ensures

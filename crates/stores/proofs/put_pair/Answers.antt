@@ -4,4 +4,4 @@ use Rattle.stores.proofs.put_pair.Goals as goal
 
 pub returns : goal.returns
 unfolding join
-returns c = λ g. pair_put c.args.pair.now g c.args.t.now _ (c.pair_place-at.ensures.place g) c.pair_place-at.ensures.within
+returns c = λ g. pair_put c.args.pair.now g c.args.t.now _ (c.pair_place.ensures.place g) c.pair_place.ensures.within
