@@ -188,13 +188,14 @@ fn plan_guest(state: &State, th: Thread, a: u8, d: u8, q: u8) -> Move
     ensures possible { (m n : ℕ) → Possible m n result }
 {
     let l = th.site.0;
+    let guest = Thread::under(&state.net, d, l, q, [None; VARIABLES]);
     Move {
         uses: Use::Right {
             target: l,
             right: UseMap::ACCEPT,
         },
         thread: th.to(a),
-        added: Some(Thread::under(&state.net, d, l, q, [None; VARIABLES])),
+        added: Some(guest),
         change: Change::Kept,
     }
 }
