@@ -64,7 +64,7 @@ module _ {st : State} (f : Fits st) where
 
 -- the line that a thread stands on, from its action; and the plan for that line, from that for the action
 module _ {st : State} {th : Thread} (p : Plannable st th) {r : Action} (d : ActionAt st.lines th.line r) {x : Action} (e : r ≡ x) where
-  line_here : line_at (state_view st).lines th.line ≡ action_line x
+  pub line_here : line_at (state_view st).lines th.line ≡ action_line x
   unfolding state_view
   line_here = line_at_lem st.lines th.line p.present ∙ sym d.line ∙ ap action_line e
 
