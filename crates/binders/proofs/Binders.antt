@@ -17,7 +17,7 @@ use Rattle.text.specs.declared.Target.TheVariants.{Site, Here, Variable}
 use Rattle.text.specs.declared.Field.{Field}
 use Rattle.text.specs.declared.Field.TheVariants.{Value, Binder, Wildcard}
 use Rattle.text.specs.Fields.{loc, slot}
-use Rattle.lines.specs.declared.Get.{Get}
+use Rattle.lines.specs.declared.Acts.{Acts}
 use Rattle.lines.specs.declared.Line.{Line}
 use Rattle.lines.specs.declared.Line.TheVariants.{Nil, Par, Rep, Out, In, Read, Eval, Accept}
 use Rattle.lines.specs.Lines.{line_view}
@@ -75,7 +75,7 @@ unfolding clash
 clash_fields fs = any_bound _ fs (λ u. rw (count_cat u (concat used_in (map slot fs)) (concat bound_in (map slot fs)), count_fields u fs) (more_not (count_by (names u) fs))) fs
 
 -- a line that is neither `in` nor `read`, and a row that is no Q row
-pub clash_none : (l : Line) → ((g : Get) → l ≡ In g → ⊥) → ((g : Get) → l ≡ Read g → ⊥) → false ≡ clash (template (line_view l))
+pub clash_none : (l : Line) → ((g : Acts Field) → l ≡ In g → ⊥) → ((g : Acts Field) → l ≡ Read g → ⊥) → false ≡ clash (template (line_view l))
 unfolding clash template line_view concat any
 clash_none Nil i r = refl
 clash_none (Par a b) i r = refl

@@ -3,19 +3,23 @@
 use mathlib.Core.Path.{◌≡◌, refl, sym, ap, ◌∙◌}
 use mathlib.Core.Bool.{Bool, true, false, not, cond}
 use mathlib.Core.List.{List, [], ◌∷◌}
+use mathlib.Core.Logic.{◌⊎◌, inl, inr}
 use mathlib.Core.Option.{Option, none, some}
 use Prim.Native.Nat.{ℕ}
 use native.Mathlib.Omega.{arith}
 use Rattle.sets.specs.Lists.{◌⧺◌, only}
 use Rattle.klaim.specs.declared.Loc.{Loc}
 use Rattle.klaim.specs.declared.Slot.{Slot}
-use Rattle.klaim.specs.Process.{Tree, out_t, get_t, eval_t, node, tree}
+use Rattle.klaim.specs.declared.Fields.{Fields}
+use Rattle.klaim.specs.Process.{Tree, node, tree}
 use Rattle.klaim.specs.Net.{Net, Estimate}
-use Rattle.klaim.specs.Analysis.{reach, out_rule, get_rule, eval_rule, broken, lesser, least}
+use Rattle.klaim.specs.Analysis.{reach, broken, lesser, least}
 use Rattle.tables.specs.declared.Action.{Action}
-use Rattle.tables.specs.View.{field_bytes, lines_view, action_line, Decoded, InForm}
-use Rattle.tables.proofs.LineTable.{tree_at}
+use Rattle.tables.specs.declared.Action.TheVariants.{Nil, Par, Rep, Out, In, Read, Eval, Accept}
+use Rattle.tables.specs.View.{Lines, action_line, lines_of, ActionAt, InForm}
+use Rattle.tables.proofs.LineTable.{tree_at, Child, next}
 use Rattle.broken.specs.Lesser.{lesser_of}
+use Rattle.broken.specs.Own.{own_rule}
 
 -- of three, the lesser of the first two and the third
 lesser_turn : (x : ℕ) (a b : Option ℕ) → lesser x (lesser_of a b) ≡ lesser (lesser x a) b
@@ -34,20 +38,45 @@ unfolding least lesser_of ◌⧺◌ only
 least_here true q xs = refl
 least_here false q xs = refl
 
--- the least broken line of line q by its action
-pub broken_at : (N : Net) (E : Estimate) (P : ℕ) {n : ℕ} {bs : List ℕ} {q : ℕ} → InForm n bs q → {r : Action} → Decoded bs q r → {x : Action} → r ≡ x → least (broken N E P (node (tree (lines_view n bs)) q (action_line x (field_bytes bs q)))) ≡ least (broken N E P (tree (lines_view n bs) q))
-broken_at N E P w d e = ap (λ (t : Tree). least (broken N E P t)) (sym (tree_at w d e))
+-- the broken lines behind a line
+abbrev pub behind : Net → Estimate → ℕ → (ℕ → Tree) → Action → List ℕ
+behind N E P t Nil = []
+behind N E P t (Par a b) = broken N E P (t a) ⧺ broken N E P (t b)
+behind N E P t (Rep a) = broken N E P (t a)
+behind N E P t (Out a g fs) = broken N E P (t a)
+behind N E P t (In a g fs) = broken N E P (t a)
+behind N E P t (Read a g fs) = broken N E P (t a)
+behind N E P t (Eval a g b k) = broken N E (reach E P g) (t b) ⧺ broken N E P (t a)
+behind N E P t (Accept a k) = broken N E P (t a)
 
--- what the code finds at an out, in or read, and eval line
-module _ (N : Net) (E : Estimate) (P q : ℕ) (g : Loc) {r rest : Option ℕ} {ok : Bool} (z : r ≡ cond ok rest (lesser_of (some q) rest)) where
-  pub at_out : (fs : List Loc) (a : Tree) → ok ≡ out_rule E P g fs → rest ≡ least (broken N E P a) → r ≡ least (broken N E P (out_t q g fs a))
-  unfolding broken
-  at_out fs a o h = z ∙ rw (o, h) (sym (least_here (out_rule E P g fs) q (broken N E P a)))
+broken_own : (N : Net) (E : Estimate) (P : ℕ) (t : ℕ → Tree) (q : ℕ) (x : Action) → only (not (own_rule N E P (action_line x))) q ⧺ behind N E P t x ≡ broken N E P (node t q (action_line x))
+unfolding broken node action_line own_rule only ◌⧺◌
+broken_own N E P t q Nil = refl
+broken_own N E P t q (Par a b) = refl
+broken_own N E P t q (Rep a) = refl
+broken_own N E P t q (Out a g fs) = refl
+broken_own N E P t q (In a g fs) = refl
+broken_own N E P t q (Read a g fs) = refl
+broken_own N E P t q (Eval a g b k) = refl
+broken_own N E P t q (Accept a k) = refl
 
-  pub at_get : (right : ℕ) (ss : List Slot) (a : Tree) → ok ≡ get_rule E P g ss → rest ≡ least (broken N E P a) → r ≡ least (broken N E P (get_t q right g ss a))
-  unfolding broken
-  at_get right ss a o h = z ∙ rw (o, h) (sym (least_here (get_rule E P g ss) q (broken N E P a)))
+-- the least broken line of line q: its own, if its rule fails, or one behind it
+module _ (N : Net) (E : Estimate) (P : ℕ) {t : Lines} {q : ℕ} (w : InForm t q) {x : Action} (d : ActionAt t q x) where
+  broken_at : least (only (not (own_rule N E P (action_line x))) q ⧺ behind N E P (tree (lines_of t)) x) ≡ least (broken N E P (tree (lines_of t) q))
+  broken_at = ap least (broken_own N E P (tree (lines_of t)) q x) ∙ ap (λ (u : Tree). least (broken N E P u)) (sym (tree_at w d refl))
 
-  pub at_eval : (k : ℕ) (b a : Tree) {m : ℕ} {x y : Option ℕ} → m ≡ reach E P g → ok ≡ eval_rule N E P g k → x ≡ least (broken N E m b) → y ≡ least (broken N E P a) → rest ≡ lesser_of x y → r ≡ least (broken N E P (eval_t q g k b a))
-  unfolding broken
-  at_eval k b a e o hx hy h = z ∙ rw (o, h, hx, hy, e, ← least_both (broken N E (reach E P g) b) (broken N E P a)) (sym (least_here (eval_rule N E P g k) q _))
+  pub found_at : {r rest : Option ℕ} {ok : Bool} → r ≡ cond ok rest (lesser_of (some q) rest) → ok ≡ own_rule N E P (action_line x) → rest ≡ least (behind N E P (tree (lines_of t)) x) → r ≡ least (broken N E P (tree (lines_of t) q))
+  found_at z o h = z ∙ rw (o, h) (sym (least_here (own_rule N E P (action_line x)) q (behind N E P (tree (lines_of t)) x))) ∙ broken_at
+
+  -- a line that has no rule itself
+  pub free_at : {y : Action} → x ≡ y → true ≡ own_rule N E P (action_line y) → {r : Option ℕ} → r ≡ least (behind N E P (tree (lines_of t)) y) → r ≡ least (broken N E P (tree (lines_of t) q))
+  free_at e o h =
+      found_at {ok = true} refl (o ∙ sym (ap (λ (y : Action). own_rule N E P (action_line y)) e)) (h ∙ sym (ap (λ (y : Action). least (behind N E P (tree (lines_of t)) y)) e))
+
+  -- a line that one line follows
+  pub after : {a : ℕ} → (x ≡ Rep a) ⊎ ((g : Loc) × (fs : Fields Loc) × (x ≡ Out a g fs)) ⊎ ((g : Loc) × (fs : Fields Slot) × (x ≡ In a g fs)) ⊎ ((g : Loc) × (fs : Fields Slot) × (x ≡ Read a g fs)) ⊎ ((k : ℕ) × (x ≡ Accept a k)) → Child t q a × (broken N E P (tree (lines_of t) a) ≡ behind N E P (tree (lines_of t)) x)
+  after (inl e) = ((next w d e).0, sym (ap (behind N E P (tree (lines_of t))) e))
+  after (inr (inl e)) = ((next w d e.2).0, sym (ap (behind N E P (tree (lines_of t))) e.2))
+  after (inr (inr (inl e))) = ((next w d e.2).0, sym (ap (behind N E P (tree (lines_of t))) e.2))
+  after (inr (inr (inr (inl e)))) = ((next w d e.2).0, sym (ap (behind N E P (tree (lines_of t))) e.2))
+  after (inr (inr (inr (inr e)))) = ((next w d e.1).0, sym (ap (behind N E P (tree (lines_of t))) e.1))

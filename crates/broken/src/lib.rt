@@ -6,8 +6,10 @@ ghost use Rattle.std.proofs.Math.Option.{some};
 ghost use Rattle.sets.specs.Options.{option_of};
 ghost use Rattle.klaim.specs.Process.{tree};
 ghost use Rattle.klaim.specs.Analysis.{broken, least};
-ghost use Rattle.tables.specs.View.{lines_of, net_view, estimate_view, InForm};
+ghost use Rattle.tables.specs.Low.{LowAction};
+ghost use Rattle.tables.specs.View.{action_line, lines_of, net_view, estimate_view, InForm};
 ghost use Rattle.rules.specs.Masks.{IndexOf};
+ghost use Rattle.broken.specs.Own.{own_rule};
 ghost use Rattle.broken.specs.Lesser.{lesser_of};
 
 use matching::RowIndex;
@@ -35,6 +37,31 @@ fn or_here(ok: bool, q: u8, rest: Option<u8>) -> Option<u8>
     lesser(Some(q), rest)
 }
 
+// Whether the rule of the line itself holds, `places` being its place set. Only lines that act have one.
+#[tactic(auto, unfolding(crate::specs::Own::own_rule, tables::specs::View::action_line))]
+fn own_rule(action: &Action, net: &Net, estimate: &Estimate, index: &RowIndex, places: u32) -> bool
+    requires { LowAction action.now }
+    ensures { IndexOf (estimate_view estimate.now) index.now.sets → result ≡ own_rule (net_view net.now) (estimate_view estimate.now) places (action_line action.now) }
+{
+    match action {
+        Action::Out { target, fields, .. } => {
+            rules::out_rule(fields, *target, places, estimate, index)
+        }
+        Action::In { target, fields, .. } | Action::Read { target, fields, .. } => {
+            rules::get_rule(fields, *target, places, estimate, index)
+        }
+        Action::Eval {
+            target,
+            sandbox,
+            ..
+        } => {
+            let set = flow::reach(*target, places, estimate);
+            rules::eval_rule(net, estimate, set, *sandbox)
+        }
+        Action::Nil | Action::Par { .. } | Action::Rep { .. } | Action::Accept { .. } => true,
+    }
+}
+
 // The least line of the process of line q whose rule is broken, `places` being its place set.
 // An eval body is judged with the reach of the target for its place set. 256 less q falls.
 pub fn first_broken(
@@ -45,53 +72,36 @@ pub fn first_broken(
     places: u32,
     q: u8,
 ) -> Option<u8>
-    requires { InForm lines.now.count lines.now.bytes q }
+    requires { InForm lines.now q }
     ensures { IndexOf (estimate_view estimate.now) index.now.sets → option_of (λ q. q) result ≡ least (broken (net_view net.now) (estimate_view estimate.now) places (tree (lines_of lines.now) q)) }
 {
-    match lines.action(q) {
+    let action = lines.action(q);
+    let ok = own_rule(&action, net, estimate, index, places);
+    match action {
         Action::Nil => None,
         Action::Par { next, second } => {
             let a = first_broken(net, estimate, index, lines, places, next);
             let b = first_broken(net, estimate, index, lines, places, second);
             lesser(a, b)
         }
-        Action::Rep { next } | Action::Accept { next, sandbox: _ } => {
-            first_broken(net, estimate, index, lines, places, next)
-        }
-        Action::Out {
-            next,
-            target,
-            count,
-        } => {
-            let rest = first_broken(net, estimate, index, lines, places, next);
-            let ok = rules::out_rule(lines, q, count, target, places, estimate, index);
-            or_here(ok, q, rest)
-        }
-        Action::In {
-            next,
-            target,
-            count,
-        }
-        | Action::Read {
-            next,
-            target,
-            count,
-        } => {
-            let rest = first_broken(net, estimate, index, lines, places, next);
-            let ok = rules::get_rule(lines, q, count, target, places, estimate, index);
-            or_here(ok, q, rest)
-        }
         Action::Eval {
             next,
             target,
             body,
-            sandbox,
+            ..
         } => {
             let set = flow::reach(target, places, estimate);
             let b = first_broken(net, estimate, index, lines, set, body);
             let a = first_broken(net, estimate, index, lines, places, next);
-            let ok = rules::eval_rule(net, estimate, set, sandbox);
             or_here(ok, q, lesser(b, a))
+        }
+        Action::Rep { next }
+        | Action::Out { next, .. }
+        | Action::In { next, .. }
+        | Action::Read { next, .. }
+        | Action::Accept { next, .. } => {
+            let rest = first_broken(net, estimate, index, lines, places, next);
+            or_here(ok, q, rest)
         }
     }
 }

@@ -11,7 +11,7 @@ ghost use Rattle.tables.specs.View.{net_view};
 
 use sets::EVERY;
 use std::array;
-use tables::{Net, SITES};
+use tables::{Net, REPORT, SITES};
 
 // How many rights a set has.
 fn size_of(rights: u8) -> u32
@@ -19,11 +19,11 @@ fn size_of(rights: u8) -> u32
 {
     let few = rights % 2 + rights / 2 % 2 + rights / 4 % 2;
     let all = few + rights / 8 % 2 + rights / 16 % 2;
-    all as u32
+    u32::from(all)
 }
 
 // The number of rights reported.
-pub fn reported(report: &[u8; 1024]) -> u32
+pub fn reported(report: &[u8; REPORT]) -> u32
     ensures { result ≡ Listing.reported report.now }
 {
     let mut count = 0;
@@ -34,7 +34,7 @@ pub fn reported(report: &[u8; 1024]) -> u32
 }
 
 // The rights in the home policy of a site that are usable.
-pub fn used_count(net: &Net, usable: [u8; 32], s: u8) -> u32
+pub fn used_count(net: &Net, usable: [u8; SITES], s: u8) -> u32
     requires { s < site_limit }
     ensures { result ≡ sum (λ t. size (meet (home (net_view net.now) s t) (get_or usable t 0))) (below site_limit) }
 {
@@ -54,7 +54,7 @@ fn home_count(net: &Net, s: u8) -> u32
 }
 
 // The same of every site.
-pub fn home_counts(net: &Net) -> [u32; 32]
+pub fn home_counts(net: &Net) -> [u32; SITES]
     ensures { result ≡ table site_limit (Listing.home_count (net_view net.now)) }
 {
     array::from_fn(|s| home_count(net, s as u8))

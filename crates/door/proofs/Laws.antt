@@ -4,12 +4,11 @@ use mathlib.Core.Path.{◌≡◌, refl, sym, ap, ◌∙◌}
 use mathlib.Core.Bool.{Bool, true, false}
 use mathlib.Core.List.{List, [], ◌∷◌}
 use mathlib.Core.Option.{none, some, some-ne-none}
-use Prim.Native.Nat.{ℕ, ◌<◌, ◌≤◌, ◌^◌}
-use native.Mathlib.Omega.{arith}
-use lib.ListN.{length, get_or}
-use Rattle.sets.specs.Lists.{All, more, ◌&◌, all, empty, below, table}
+use Prim.Native.Nat.{ℕ, ◌^◌}
+use lib.ListN.{get_or}
+use Rattle.sets.specs.Lists.{◌&◌, all, empty, below, table}
 use Rattle.sets.specs.Bits.{within}
-use Rattle.sets.proofs.Lists.{All-turn, all_same}
+use Rattle.sets.proofs.Lists.{all_same}
 use Rattle.sets.proofs.Tables.{get_or_table, in_below}
 use Rattle.sets.proofs.Lists.{and_yes}
 use Rattle.klaim.specs.Process.{Line, Tree, tree}

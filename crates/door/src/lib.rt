@@ -19,13 +19,13 @@ fn uses_within(m: UseMap, net: &Net, d: u8, l: u8) -> bool
     requires { d < 32 }
     ensures { result ≡ all (λ t. is_within (get_or m.rights t 0) (box_at (net_view net.now) d l t)) (below 32) }
 {
-    (0..32u8).all(|t| rules::within(m.rights[t as usize], flow::box_at(net, d, l, t)))
+    (0..32u8).all(|t| rules::within(m.rights[usize::from(t)], flow::box_at(net, d, l, t)))
 }
 
 // Whether all rules hold for the lines of the arrival whose root is line q with place set l, and none of its eval lines adds
 // anything to a report.
 pub fn sound(net: &Net, estimate: &Estimate, index: &RowIndex, lines: &Lines, l: u8, q: u8) -> bool
-    requires { InForm lines.now.count lines.now.bytes q × (l < 32) }
+    requires { InForm lines.now q × (l < 32) }
     ensures { IndexOf (estimate_view estimate.now) index.now.sets → result ≡ sound_of (net_view net.now) (estimate_view estimate.now) l (tree (lines_of lines.now) q) }
 {
     let places = sets::single(l);
@@ -37,7 +37,7 @@ pub fn sound(net: &Net, estimate: &Estimate, index: &RowIndex, lines: &Lines, l:
 
 // Whether the use map of the arrival whose root is line q lies within sandbox d evaluated at site l.
 pub fn uses_fit(net: &Net, estimate: &Estimate, lines: &Lines, d: u8, l: u8, q: u8) -> bool
-    requires { InForm lines.now.count lines.now.bytes q × (d < 32) × (l < 32) }
+    requires { InForm lines.now q × (d < 32) × (l < 32) }
     ensures { result ≡ uses_fit (net_view net.now) (estimate_view estimate.now) d l (tree (lines_of lines.now) q) }
 {
     let places = sets::single(l);

@@ -2,23 +2,22 @@
 -- Assumes nothing.
 use mathlib.Core.Path.{◌≡◌, refl, sym, ap, subst, ◌∙◌}
 use mathlib.Core.List.{List}
-use Prim.Native.Nat.{ℕ, ◌+◌, ◌*◌, ◌<◌, ◌^◌}
-use lib.Bits.{bit_and}
+use Prim.Native.Nat.{ℕ, ◌<◌, ◌^◌}
 use lib.ListN.{get_or}
-use borrow.Author.Tests.{eq-eqb, ne_eqb}
 use Rattle.sets.specs.Lists.{table}
-use Rattle.sets.specs.Bits.{accept_bit, mem, sites, join, meet, grant, joins}
+use Rattle.sets.specs.Bits.{accept_bit, mem, sites, join, grant, joins}
 use Rattle.sets.proofs.Tables.{get_or_table, same_table}
 use Rattle.klaim.specs.declared.Site.{Site}
 use Rattle.klaim.specs.declared.Var.{Var}
 use Rattle.klaim.specs.declared.Loc.{Loc}
 use Rattle.klaim.specs.declared.Loc.TheVariants.{At, Here, Use}
 use Rattle.klaim.specs.Process.{Tree, node, tree}
-use Rattle.klaim.specs.Net.{Net, Estimate, box, box_self, box_at, may}
+use Rattle.klaim.specs.Net.{Net, Estimate, box_at, may}
 use Rattle.klaim.specs.Analysis.{reach}
 use Rattle.klaim.specs.Report.{uses}
 use Rattle.tables.specs.declared.Action.{Action}
-use Rattle.tables.specs.View.{field_bytes, lines_view, action_line, LowLoc, Decoded, InForm}
+use Rattle.tables.specs.Low.{LowLoc}
+use Rattle.tables.specs.View.{Lines, lines_of, action_line, ActionAt, InForm}
 use Rattle.tables.specs.declared.Action.TheVariants.{Nil, Par, Rep, Out, In, Read, Eval, Accept}
 use Rattle.tables.proofs.LineTable.{tree_at, Child, Next, next}
 use Rattle.flow.specs.declared.Part.{Part}
@@ -58,23 +57,23 @@ pub join_tables : (f g : ℕ → ℕ) {a b : List ℕ} → a ≡ table 32 f → 
 join_tables f g {a} {b} e h = join_right a g h ∙ join_table f g e
 
 -- what the recursion meets in each arm: the children, and numbers within limits
-abbrev pub Below : ℕ → List ℕ → ℕ → Part → Type 0
-Below n bs q Nothing = Unit {0}
-Below n bs q (Both a b) = Child n bs q a × Child n bs q b
-Below n bs q (Same a) = Child n bs q a × Unit {0}
-Below n bs q (Acts a r g) = Child n bs q a × LowLoc g
-Below n bs q (Accepts a k) = Child n bs q a × (k < 32)
+abbrev pub Below : Lines → ℕ → Part → Type 0
+Below t q Nothing = Unit {0}
+Below t q (Both a b) = Child t q a × Child t q b
+Below t q (Same a) = Child t q a × Unit {0}
+Below t q (Acts a r g) = Child t q a × LowLoc g
+Below t q (Accepts a k) = Child t q a × (k < 32)
 
-below_of : (n : ℕ) (bs : List ℕ) (q : ℕ) (x : Action) → Next n bs q x → Below n bs q (part_of x)
+below_of : (t : Lines) (q : ℕ) (x : Action) → Next t q x → Below t q (part_of x)
 unfolding part_of
-below_of n bs q Nil h = tt
-below_of n bs q (Par a b) h = h
-below_of n bs q (Rep a) h = h
-below_of n bs q (Out a g k) h = (h.0, h.1)
-below_of n bs q (In a g k) h = (h.0, h.1)
-below_of n bs q (Read a g k) h = (h.0, h.1)
-below_of n bs q (Eval a g b k) h = (h.0, h.1)
-below_of n bs q (Accept a k) h = h
+below_of t q Nil h = tt
+below_of t q (Par a b) h = h
+below_of t q (Rep a) h = h
+below_of t q (Out a g fs) h = (h.0, h.1)
+below_of t q (In a g fs) h = (h.0, h.1)
+below_of t q (Read a g fs) h = (h.0, h.1)
+below_of t q (Eval a g b k) h = (h.0, h.1)
+below_of t q (Accept a k) h = h
 
 -- the use map of a line, its children's processes given by their numbers
 unfoldable pub uses_by : (N : Net) (E : Estimate) (P : ℕ) → (ℕ → Tree) → Part → ℕ → ℕ
@@ -84,24 +83,24 @@ uses_by N E P f (Same a) s = uses N E P (f a) s
 uses_by N E P f (Acts a r g) s = join (uses N E P (f a) s) (grant (mem s (reach E P g)) r)
 uses_by N E P f (Accepts a k) s = join (uses N E P (f a) s) (join (grant (mem s P) accept_bit) (joins (λ l. box_at N k l s) (sites P)))
 
-uses_of : (N : Net) (E : Estimate) (P : ℕ) (f : ℕ → Tree) (q : ℕ) (fs : List ℕ) (x : Action) (s : ℕ) → uses_by N E P f (part_of x) s ≡ uses N E P (node f q (action_line x fs)) s
+uses_of : (N : Net) (E : Estimate) (P : ℕ) (f : ℕ → Tree) (q : ℕ) (x : Action) (s : ℕ) → uses_by N E P f (part_of x) s ≡ uses N E P (node f q (action_line x)) s
 unfolding uses_by part_of uses node action_line
-uses_of N E P f q fs Nil s = refl
-uses_of N E P f q fs (Par a b) s = refl
-uses_of N E P f q fs (Rep a) s = refl
-uses_of N E P f q fs (Out a g n) s = refl
-uses_of N E P f q fs (In a g n) s = refl
-uses_of N E P f q fs (Read a g n) s = refl
-uses_of N E P f q fs (Eval a g b k) s = refl
-uses_of N E P f q fs (Accept a k) s = refl
+uses_of N E P f q Nil s = refl
+uses_of N E P f q (Par a b) s = refl
+uses_of N E P f q (Rep a) s = refl
+uses_of N E P f q (Out a g fs) s = refl
+uses_of N E P f q (In a g fs) s = refl
+uses_of N E P f q (Read a g fs) s = refl
+uses_of N E P f q (Eval a g b k) s = refl
+uses_of N E P f q (Accept a k) s = refl
 
 -- line q by what it adds
-module _ {n : ℕ} {bs : List ℕ} {q : ℕ} (w : InForm n bs q) {r : Action} (d : Decoded bs q r) {p x : Part} (h : p ≡ part_of r) (e : p ≡ x) where
-  pub below_at : Below n bs q x
-  below_at = subst (Below n bs q) (sym h ∙ e) (below_of n bs q r (next w d refl))
+module _ {t : Lines} {q : ℕ} (w : InForm t q) {r : Action} (d : ActionAt t q r) {p x : Part} (h : p ≡ part_of r) (e : p ≡ x) where
+  pub below_at : Below t q x
+  below_at = subst (Below t q) (sym h ∙ e) (below_of t q r (next w d refl))
 
-  pub uses_at : (N : Net) (E : Estimate) (P : ℕ) → table 32 (uses_by N E P (tree (lines_view n bs)) x) ≡ table 32 (uses N E P (tree (lines_view n bs) q))
+  pub uses_at : (N : Net) (E : Estimate) (P : ℕ) → table 32 (uses_by N E P (tree (lines_of t)) x) ≡ table 32 (uses N E P (tree (lines_of t) q))
   uses_at N E P = same_table 32 _ _ 0 (λ s l.
-      ap (λ (y : Part). uses_by N E P (tree (lines_view n bs)) y s) (sym e ∙ h)
-      ∙ uses_of N E P (tree (lines_view n bs)) q (field_bytes bs q) r s
-      ∙ ap (λ (t : Tree). uses N E P t s) (sym (tree_at w d refl)))
+      ap (λ (y : Part). uses_by N E P (tree (lines_of t)) y s) (sym e ∙ h)
+      ∙ uses_of N E P (tree (lines_of t)) q r s
+      ∙ ap (λ (x : Tree). uses N E P x s) (sym (tree_at w d refl)))

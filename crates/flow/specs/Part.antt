@@ -6,12 +6,13 @@ use Rattle.tables.specs.declared.Action.TheVariants.{Nil, Par, Rep, Out, In, Rea
 use Rattle.flow.specs.declared.Part.{Part}
 use Rattle.flow.specs.declared.Part.TheVariants.{Nothing, Both, Same, Acts, Accepts}
 
+-- what an action adds
 unfoldable pub part_of : Action → Part
 part_of Nil = Nothing
 part_of (Par a b) = Both a b
 part_of (Rep a) = Same a
-part_of (Out a g n) = Acts a out_bit g
-part_of (In a g n) = Acts a in_bit g
-part_of (Read a g n) = Acts a read_bit g
+part_of (Out a g fs) = Acts a out_bit g
+part_of (In a g fs) = Acts a in_bit g
+part_of (Read a g fs) = Acts a read_bit g
 part_of (Eval a g b k) = Acts a eval_bit g
 part_of (Accept a k) = Accepts a k

@@ -8,7 +8,8 @@ ghost use Rattle.klaim.specs.Process.{tree};
 ghost use Rattle.klaim.specs.Net.{box_at};
 ghost use Rattle.klaim.specs.Analysis.{reach as reach_of};
 ghost use Rattle.klaim.specs.Report.{sure, uses};
-ghost use Rattle.tables.specs.View.{lines_of, net_view, estimate_view, LowLoc, InForm};
+ghost use Rattle.tables.specs.Low.{LowLoc};
+ghost use Rattle.tables.specs.View.{lines_of, net_view, estimate_view, InForm};
 ghost use Rattle.flow.specs.Part.{part_of};
 
 use klaim::Loc;
@@ -150,6 +151,8 @@ enum Part {
     Accepts(u8, u8),
 }
 
+// What the line's action adds.
+#[tactic(auto, unfolding(crate::specs::Part::part_of))]
 fn part_of(action: Action) -> Part
     ensures { result ≡ part_of action }
 {
@@ -157,34 +160,17 @@ fn part_of(action: Action) -> Part
         Action::Nil => Part::Nothing,
         Action::Par { next, second } => Part::Both(next, second),
         Action::Rep { next } => Part::Same(next),
-        Action::Out {
-            next,
-            target,
-            count: _,
-        } => Part::Acts(next, UseMap::OUT, target),
-        Action::In {
-            next,
-            target,
-            count: _,
-        } => Part::Acts(next, UseMap::IN, target),
-        Action::Read {
-            next,
-            target,
-            count: _,
-        } => Part::Acts(next, UseMap::READ, target),
-        Action::Eval {
-            next,
-            target,
-            body: _,
-            sandbox: _,
-        } => Part::Acts(next, UseMap::EVAL, target),
+        Action::Out { next, target, .. } => Part::Acts(next, UseMap::OUT, target),
+        Action::In { next, target, .. } => Part::Acts(next, UseMap::IN, target),
+        Action::Read { next, target, .. } => Part::Acts(next, UseMap::READ, target),
+        Action::Eval { next, target, .. } => Part::Acts(next, UseMap::EVAL, target),
         Action::Accept { next, sandbox } => Part::Accepts(next, sandbox),
     }
 }
 
 // The use map of line q, `places` being its place set. Children have greater numbers: 256 less q falls.
 pub fn use_map(net: &Net, estimate: &Estimate, lines: &Lines, places: u32, q: u8) -> UseMap
-    requires { InForm lines.now.count lines.now.bytes q }
+    requires { InForm lines.now q }
     ensures { result.rights ≡ table 32 (uses (net_view net.now) (estimate_view estimate.now) places (tree (lines_of lines.now) q)) }
 {
     match part_of(lines.action(q)) {

@@ -7,9 +7,12 @@ use std::io::{Read, Write};
 use std::ops::Range;
 use streams::Failure;
 
+// Bytes of all cases: 2 MiB.
+const ROOM: usize = 2097152;
+
 // Room for all cases. A function of its own keeps the zeros out of what is to be proved of its caller.
-pub fn room() -> [u8; 2097152] {
-    [0; 2097152]
+pub fn room() -> [u8; ROOM] {
+    [0; ROOM]
 }
 
 // Where the row that begins at `at` ends; at the end of the bytes, where no 0A ends it.

@@ -12,18 +12,19 @@ use Rattle.klaim.specs.declared.Slot.TheVariants.{Value}
 use Rattle.klaim.specs.Process.{boxes_of, slots_of, sites_in, used_in, bound_in}
 use Rattle.text.specs.declared.SiteName.{SiteName}
 use Rattle.text.specs.declared.Target.{Target}
+use Rattle.text.specs.declared.Field.{Field}
 use Rattle.text.specs.Fields.{loc, slot}
 use Rattle.klaim.specs.declared.Fields.{Fields}
-use Rattle.lines.specs.declared.Get.{Get}
+use Rattle.lines.specs.declared.Acts.{Acts}
 use Rattle.lines.specs.declared.Line.{Line}
 use Rattle.lines.specs.declared.Line.TheVariants.{Nil, Par, Rep, Out, In, Read, Eval, Accept}
 use Rattle.klaim.specs.Fields.{items}
-use Rattle.lines.specs.Lines.{get_of, line_view}
+use Rattle.lines.specs.Lines.{acts_of, line_view}
 use Rattle.judge.proofs.Tests.{all_cat, all_and, all_concat}
 
 -- a line of another kind
 pub no_box : (l : Line) → ((a : ℕ) (g : Target) (b k : ℕ) → l ≡ Eval a g b k → ⊥) → ((a k : ℕ) → l ≡ Accept a k → ⊥) → boxes_of (line_view l) ≡ []
-unfolding boxes_of line_view get_of
+unfolding boxes_of line_view acts_of
 no_box Nil e a = refl
 no_box (Par n m) e a = refl
 no_box (Rep n) e a = refl
@@ -33,8 +34,8 @@ no_box (Read g) e a = refl
 no_box (Eval n g b k) e a = absurd (e n g b k refl)
 no_box (Accept n k) e a = absurd (a n k refl)
 
-pub no_slots : (l : Line) → ((a : ℕ) (g : Target) (fs : Fields Target) → l ≡ Out a g fs → ⊥) → ((g : Get) → l ≡ In g → ⊥) → ((g : Get) → l ≡ Read g → ⊥) → ((a : ℕ) (g : Target) (b k : ℕ) → l ≡ Eval a g b k → ⊥) → slots_of (line_view l) ≡ []
-unfolding slots_of line_view get_of
+pub no_slots : (l : Line) → ((a : ℕ) (g : Target) (fs : Fields Target) → l ≡ Out a g fs → ⊥) → ((g : Acts Field) → l ≡ In g → ⊥) → ((g : Acts Field) → l ≡ Read g → ⊥) → ((a : ℕ) (g : Target) (b k : ℕ) → l ≡ Eval a g b k → ⊥) → slots_of (line_view l) ≡ []
+unfolding slots_of line_view acts_of
 no_slots Nil o i r e = refl
 no_slots (Par n m) o i r e = refl
 no_slots (Rep n) o i r e = refl
@@ -79,8 +80,8 @@ out_slots a g fs = ap (λ ss. Value (loc g) ∷ ss) (twice (items fs))
     twice (t ∷ ts) = ap (λ ss. Value (loc t) ∷ ss) (twice ts)
 
 -- those of `in` and `read`
-pub get_slots : (l : Line) (g : Get) → (l ≡ In g) ⊎ (l ≡ Read g) → slots_of (line_view l) ≡ Value (loc g.target) ∷ map slot (items g.fields)
-unfolding slots_of line_view get_of
+pub get_slots : (l : Line) (g : Acts Field) → (l ≡ In g) ⊎ (l ≡ Read g) → slots_of (line_view l) ≡ Value (loc g.target) ∷ map slot (items g.fields)
+unfolding slots_of line_view acts_of
 get_slots l g (inl e) = rw e refl
 get_slots l g (inr e) = rw e refl
 

@@ -16,7 +16,8 @@ use Rattle.sets.proofs.Lists.{same_eq}
 use Rattle.klaim.specs.declared.Loc.{Loc}
 use Rattle.klaim.specs.declared.Slot.{Slot}
 use Rattle.klaim.specs.Process.{Line, Nil, Par, Rep, Out, In, Read, Eval, Accept}
-use Rattle.klaim.specs.Rows.{at, text, given, otherwise, ◌>>=◌, number, loc_field, slot_field, fields, line_nil, line_par, line_rep, line_out, line_get, line_eval, line_accept, line_form}
+use Rattle.lines.specs.Lines.{acts_form}
+use Rattle.klaim.specs.Rows.{at, text, given, otherwise, ◌>>=◌, number, loc_field, slot_field, line_nil, line_par, line_rep, line_out, line_get, line_eval, line_accept, line_form}
 
 -- a test of how many fields there are
 pub sized_yes : {l m n : ℕ} → m ≡ l → m ≡ n → eqb l n ≡ true
@@ -56,12 +57,12 @@ module _ (fs : List (List ℕ)) where
   rest : drop 3 (drop 2 fs) ≡ drop 5 fs
   rest = drop-drop 3 2 fs
 
-  pub out_at : line_out (drop 2 fs) ≡ (number (at fs 3) >>= λ a. loc_field (at fs 4) >>= λ g. fields loc_field (drop 5 fs) >>= λ xs. some (Out a g xs))
-  unfolding line_out
+  pub out_at : line_out (drop 2 fs) ≡ acts_form loc_field Out fs
+  unfolding line_out acts_form
   out_at = rw (word 1, word 2, rest) refl
 
-  pub get_at : (kind : ℕ → Loc → List Slot → Line) → line_get kind (drop 2 fs) ≡ (number (at fs 3) >>= λ a. loc_field (at fs 4) >>= λ g. fields slot_field (drop 5 fs) >>= λ xs. some (kind a g xs))
-  unfolding line_get
+  pub get_at : (kind : ℕ → Loc → List Slot → Line) → line_get kind (drop 2 fs) ≡ acts_form slot_field kind fs
+  unfolding line_get acts_form
   get_at kind = rw (word 1, word 2, rest) refl
 
   pub eval_at : line_eval (drop 2 fs) ≡ given (eqb (length fs) 7) (number (at fs 3) >>= λ a. loc_field (at fs 4) >>= λ g. number (at fs 5) >>= λ b. number (at fs 6) >>= λ k. some (Eval a g b k))

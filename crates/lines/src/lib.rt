@@ -1,14 +1,15 @@
 //! The form of a process line.
 #![tactic(auto)]
 
-ghost use Rattle.std.specs.Prelude.{◌≡◌, ◌+◌, ◌<◌, ◌≤◌, length, drop, map};
+ghost use Rattle.std.specs.Prelude.{◌≡◌, List, ℕ, ◌+◌, ◌<◌, ◌≤◌, length, drop, map};
 ghost use Rattle.sets.specs.Options.{option_of};
-ghost use Rattle.klaim.specs.Process.{In, Read};
-ghost use Rattle.klaim.specs.Rows.{split, comma, at, loc_field, fields, line_nil, line_par, line_rep, line_out, line_get, line_eval, line_accept, line_form};
+ghost use Rattle.klaim.specs.declared.Loc.{Loc};
+ghost use Rattle.klaim.specs.Process as Spec;
+ghost use Rattle.klaim.specs.Rows.{split, comma, at, loc_field, fields, line_nil, line_par, line_rep, line_out, line_eval, line_accept, line_form};
 ghost use Rattle.text.specs.Pieces.{edge_limit};
 ghost use Rattle.text.specs.Fields.{loc};
 ghost use Rattle.klaim.specs.Fields.{items};
-ghost use Rattle.lines.specs.Lines.{get_of, line_view};
+ghost use Rattle.lines.specs.Lines.{acts_of, acts_form, line_view};
 
 use klaim::Fields;
 use text::{CutRow, Field, Spoken, Target};
@@ -32,12 +33,12 @@ pub fn fields_at<T: Spoken>(row: &CutRow, k: usize) -> Option<Fields<T>>
     }
 }
 
-// What `in` and `read` have.
+// What `out`, `in` and `read` have: the line that follows, the target, the fields.
 #[derive(Clone, Copy)]
-pub struct Get {
+pub struct Acts<T> {
     pub next: u16,
     pub target: Target,
-    pub fields: Fields<Field>,
+    pub fields: Fields<T>,
 }
 
 // A process line: `next` is the line that follows, `second` the second branch, `body` the line that is sent.
@@ -56,8 +57,8 @@ pub enum Line {
         target: Target,
         fields: Fields<Target>,
     },
-    In(Get),
-    Read(Get),
+    In(Acts<Field>),
+    Read(Acts<Field>),
     Eval {
         next: u16,
         target: Target,
@@ -110,28 +111,25 @@ fn target_at(row: &CutRow) -> Option<Target>
     row.read(4)
 }
 
-fn read_out(row: &CutRow) -> Option<Line>
-    ensures { option_of line_view result ≡ line_out (drop 2 (split comma row.now.bytes.now)) }
+// The words behind the third field in `out`, `in` and `read`.
+fn read_acts<T: Spoken>(row: &CutRow) -> Option<Acts<T>>
+    ensures { (kind : ℕ → Loc → List T.Meaning → Spec.Line) → option_of (acts_of T.meaning kind) result ≡ acts_form T.form kind (split comma row.now.bytes.now) }
 {
-    let next = row.number(3)?;
-    let target = target_at(row)?;
-    let fields = fields_at(row, 5)?;
-    Some(Line::Out {
-        next,
-        target,
-        fields,
-    })
-}
-
-// `in` and `read`.
-fn read_get(row: &CutRow) -> Option<Get>
-    ensures input { option_of (get_of In) result ≡ line_get In (drop 2 (split comma row.now.bytes.now)) }
-    ensures read { option_of (get_of Read) result ≡ line_get Read (drop 2 (split comma row.now.bytes.now)) }
-{
-    Some(Get {
+    Some(Acts {
         next: row.number(3)?,
         target: target_at(row)?,
         fields: fields_at(row, 5)?,
+    })
+}
+
+fn read_out(row: &CutRow) -> Option<Line>
+    ensures { option_of line_view result ≡ line_out (drop 2 (split comma row.now.bytes.now)) }
+{
+    let acts = read_acts(row)?;
+    Some(Line::Out {
+        next: acts.next,
+        target: acts.target,
+        fields: acts.fields,
     })
 }
 
@@ -179,10 +177,10 @@ pub fn line_at(row: &CutRow) -> Option<Line>
         return read_out(row);
     }
     if text::same(word, b"in") {
-        return Some(Line::In(read_get(row)?));
+        return Some(Line::In(read_acts(row)?));
     }
     if text::same(word, b"read") {
-        return Some(Line::Read(read_get(row)?));
+        return Some(Line::Read(read_acts(row)?));
     }
     if text::same(word, b"eval") {
         return read_eval(row);

@@ -6,27 +6,27 @@ use mathlib.Core.Bool.{not-not, Bool, true, false, not, cond, false≢true}
 use mathlib.Core.List.{List, [], ◌∷◌, map}
 use Prim.Native.Nat.{ℕ, zero, suc, ◌+◌, ◌*◌, ◌-◌, ◌/◌, ◌%◌, ◌^◌, ◌<◌, ◌≤◌, min}
 use native.Mathlib.Omega.{arith}
+use native.Mathlib.Numerals.{add-one}
 use native.Mathlib.Nat.{pow-suc, div-one, one-mul}
 use native.Mathlib.Decide.{ℕ_discrete, dec_lt}
 use lib.Dec.{eqb, ltb}
-use lib.Bits.{bit_or, bit_and, and_step, and_self, and_le_l, and_le_r}
+use lib.Bits.{bit_or, bit_and, and_step, and_self, and_le_r}
 use lib.Pow.{shr-shr, shl_exact}
 use lib.Count.{count_trailing_zeros, under, ones, ones_in, ones_step}
-use lib.ListN.{length, get_or, take, drop, length-take, length-map, set, replicate, length-set, get_or-replicate}
-use lib.Seq.{ext_get_or, get_or-take, get_or-set_same, get_or-set_other}
+use lib.ListN.{length, get_or, drop, set, replicate, length-set, get_or-replicate}
+use lib.Seq.{ext_get_or, get_or-set_same, get_or-set_other}
 use Rattle.sets.specs.Lists.{◌&◌, either, imp, all, any, only, keep, ◌⧺◌, same, below, table, table_from, fits, product}
 use Rattle.sets.specs.Bits.{has, mem, sites, join}
 use Rattle.sets.proofs.Lists.{and_true, and_false, and_yes, and_no, eqb_suc, iff, and_i, and_l, and_r, imp_e, any_at, any_i, length_cat, only_long, keep_short, or_case, or_l, or_r, eqb_eq, ltb_lt, lt-ltb}
 use borrow.Author.Tests.{eq-eqb, ne_eqb, le-ltb}
 use Rattle.sets.proofs.Shared.{mem_single, none_high}
 use Rattle.sets.proofs.Bits.{digit, has_or, has_none, has_half, same_bits}
-use Rattle.sets.proofs.Tables.{Filled, get_or_table, below_in, in_below, table_in, table_all}
+use Rattle.sets.proofs.Tables.{get_or_table, below_in, in_below, table_in, table_all}
 use Rattle.klaim.specs.Analysis.{choices}
 use Rattle.klaim.specs.Invariant.{all_below, distinct}
-use Rattle.tables.specs.View.{row_at, rows_view}
-use Rattle.tables.proofs.LineTable.{get_d_map}
-use Rattle.matching.specs.Index.{in_column, in_rows, in_index, Indexed, Entered, Low}
-use Rattle.matching.proofs.Laws.{count_rule, keep_more, keep_none, Sets, sets_long_lem, fits_long, fits_end, fits_at, row_get, among_low}
+use Rattle.tables.specs.View.{Tuples, row_at, tuples_of}
+use Rattle.matching.specs.Index.{in_column, in_rows, in_index, IndexedTo, Entered, Low}
+use Rattle.matching.proofs.Laws.{count_rule, keep_more, keep_none, Sets, sets_long_lem, fits_long, fits_end, fits_at, among_low}
 
 mem_low : (n d : ℕ) → n % 2 ≡ d → mem 0 n ≡ eqb d 1
 unfolding has
@@ -79,12 +79,12 @@ untrue {b = true} h = absurd (h refl)
 untrue {b = false} h = refl
 
 -- no column is entered yet
-pub entered_none : (bs : List ℕ) (i : ℕ) (s : List ℕ) → Entered bs i 0 s s
+pub entered_none : (row : List ℕ) (i : ℕ) (s : List ℕ) → Entered row i 0 s s
 unfolding either ◌&◌
-entered_none bs i s = record { long = refl; tells = λ c v k _ _ _. sym (ap (λ (b : Bool). either (b & (eqb k i & eqb (in_column bs c i) v)) (in_index s c v k)) (le-ltb c 0 (omega arith))) }
+entered_none row i s = record { long = refl; tells = λ c v k _ _ _. sym (ap (λ (b : Bool). either (b & (eqb k i & eqb (in_column row c) v)) (in_index s c v k)) (le-ltb c 0 (omega arith))) }
 
 -- one column more
-module _ (bs : List ℕ) (i j at bit : ℕ) (s t : List ℕ) (low : i < 256) (cell : at ≡ 128 * j + 4 * in_column bs j i + i / 64) (key : in_column bs j i < 32) (col : j < 6) (one : bit ≡ 2 ^ (i % 64)) (long : length s ≡ 768) (E : Entered bs i j s t) where
+module _ (row : List ℕ) (i j at bit : ℕ) (s t : List ℕ) (low : i < 256) (cell : at ≡ 128 * j + 4 * in_column row j + i / 64) (key : in_column row j < 32) (col : j < 6) (one : bit ≡ 2 ^ (i % 64)) (long : length s ≡ 768) (E : Entered row i j s t) where
   bit_here : (c v k : ℕ) → 128 * c + 4 * v + k / 64 ≡ at → mem (k % 64) (get_or (set t at (bit_or (get_or t at 0) bit)) (128 * c + 4 * v + k / 64) 0) ≡ either (in_index t c v k) (eqb (i % 64) (k % 64))
   unfolding join in_index
   bit_here c v k e =
@@ -95,85 +95,112 @@ module _ (bs : List ℕ) (i j at bit : ℕ) (s t : List ℕ) (low : i < 256) (ce
       ∙ ap (either (mem (k % 64) (get_or t at 0))) (mem_single (k % 64) (i % 64))
       ∙ ap (λ (x : ℕ). either (mem (k % 64) (get_or t x 0)) (eqb (i % 64) (k % 64))) (sym e)
 
-  more_here : (c v k : ℕ) → c < 6 → v < 32 → k < 256 → 128 * c + 4 * v + k / 64 ≡ at → either (in_index t c v k) (eqb (i % 64) (k % 64)) ≡ either (ltb c (j + 1) & (eqb k i & eqb (in_column bs c i) v)) (in_index s c v k)
+  more_here : (c v k : ℕ) → c < 6 → v < 32 → k < 256 → 128 * c + 4 * v + k / 64 ≡ at → either (in_index t c v k) (eqb (i % 64) (k % 64)) ≡ either (ltb c (j + 1) & (eqb k i & eqb (in_column row c) v)) (in_index s c v k)
   more_here c v k hc hv hk e = iff (λ z. to (or_case _ _ z)) (λ z. from (or_case _ _ z))
     where
       same_col : c ≡ j
       same_col = omega arith
 
-      same_key : in_column bs c i ≡ v
-      same_key = ap (λ (x : ℕ). in_column bs x i) same_col ∙ omega arith
+      same_key : in_column row c ≡ v
+      same_key = ap (λ (x : ℕ). in_column row x) same_col ∙ omega arith
 
       old : (in_index t c v k ≡ true) → in_index s c v k ≡ true
       old z = go (or_case _ _ (sym (E.tells c v k hc hv hk) ∙ z))
         where
-          go : (ltb c j & (eqb k i & eqb (in_column bs c i) v) ≡ true) ⊎ (in_index s c v k ≡ true) → in_index s c v k ≡ true
+          go : (ltb c j & (eqb k i & eqb (in_column row c) v) ≡ true) ⊎ (in_index s c v k ≡ true) → in_index s c v k ≡ true
           go (inl q) = absurd (omega (arith, same_col, ltb_lt c j (and_l _ _ q)))
           go (inr q) = q
 
-      to : (in_index t c v k ≡ true) ⊎ (eqb (i % 64) (k % 64) ≡ true) → either (ltb c (j + 1) & (eqb k i & eqb (in_column bs c i) v)) (in_index s c v k) ≡ true
+      to : (in_index t c v k ≡ true) ⊎ (eqb (i % 64) (k % 64) ≡ true) → either (ltb c (j + 1) & (eqb k i & eqb (in_column row c) v)) (in_index s c v k) ≡ true
       to (inl q) = or_r _ _ (old q)
       to (inr q) =
           let m : i % 64 ≡ k % 64 = eqb_eq q in
           let e : k ≡ i = omega arith in
           or_l _ _ (and_i (lt-ltb c (j + 1) (omega (arith, same_col))) (and_i (eq-eqb _ _ e) (eq-eqb _ _ same_key)))
 
-      from : (ltb c (j + 1) & (eqb k i & eqb (in_column bs c i) v) ≡ true) ⊎ (in_index s c v k ≡ true) → either (in_index t c v k) (eqb (i % 64) (k % 64)) ≡ true
+      from : (ltb c (j + 1) & (eqb k i & eqb (in_column row c) v) ≡ true) ⊎ (in_index s c v k ≡ true) → either (in_index t c v k) (eqb (i % 64) (k % 64)) ≡ true
       from (inl q) = let e : k ≡ i = eqb_eq (and_l _ _ (and_r _ _ q)) in or_r _ _ (eq-eqb _ _ (ap (λ (x : ℕ). x % 64) (sym e)))
       from (inr q) = or_l _ _ (E.tells c v k hc hv hk ∙ or_r _ _ q)
 
-  more_there : (c v k : ℕ) → c < 6 → v < 32 → k < 256 → (128 * c + 4 * v + k / 64 ≡ at → ⊥) → in_index t c v k ≡ either (ltb c (j + 1) & (eqb k i & eqb (in_column bs c i) v)) (in_index s c v k)
+  more_there : (c v k : ℕ) → c < 6 → v < 32 → k < 256 → (128 * c + 4 * v + k / 64 ≡ at → ⊥) → in_index t c v k ≡ either (ltb c (j + 1) & (eqb k i & eqb (in_column row c) v)) (in_index s c v k)
   more_there c v k hc hv hk h = E.tells c v k hc hv hk ∙ ap (λ (b : Bool). either b (in_index s c v k)) (iff to from)
     where
-      to : ltb c j & (eqb k i & eqb (in_column bs c i) v) ≡ true → ltb c (j + 1) & (eqb k i & eqb (in_column bs c i) v) ≡ true
+      to : ltb c j & (eqb k i & eqb (in_column row c) v) ≡ true → ltb c (j + 1) & (eqb k i & eqb (in_column row c) v) ≡ true
       to z = let l = ltb_lt c j (and_l _ _ z) in and_i (lt-ltb c (j + 1) (omega arith)) (and_r _ _ z)
 
-      from : ltb c (j + 1) & (eqb k i & eqb (in_column bs c i) v) ≡ true → ltb c j & (eqb k i & eqb (in_column bs c i) v) ≡ true
+      from : ltb c (j + 1) & (eqb k i & eqb (in_column row c) v) ≡ true → ltb c j & (eqb k i & eqb (in_column row c) v) ≡ true
       from z = and_i (lt-ltb c j (go (ℕ_discrete c j))) (and_r _ _ z)
         where
           go : Dec (c ≡ j) → c < j
           go (yes e) =
-              let x : in_column bs c i ≡ in_column bs j i = ap (λ (x : ℕ). in_column bs x i) e in
-              let y : in_column bs c i ≡ v = eqb_eq (and_r _ _ (and_r _ _ z)) in
+              let x : in_column row c ≡ in_column row j = ap (λ (x : ℕ). in_column row x) e in
+              let y : in_column row c ≡ v = eqb_eq (and_r _ _ (and_r _ _ z)) in
               let w : k ≡ i = eqb_eq (and_l _ _ (and_r _ _ z)) in
               let u : k / 64 ≡ i / 64 = ap (λ (x : ℕ). x / 64) w in
               absurd (h (omega arith))
           go (no e) = let l = ltb_lt c (j + 1) (and_l _ _ z) in omega arith
 
-  pub entered_more : Entered bs i (j + 1) s (set t at (bit_or (get_or t at 0) bit))
+  pub entered_more : Entered row i (j + 1) s (set t at (bit_or (get_or t at 0) bit))
   unfolding in_index
   entered_more = record { long = length-set t at (bit_or (get_or t at 0) bit) ∙ E.long; tells = λ c v k hc hv hk. go c v k hc hv hk (ℕ_discrete (128 * c + 4 * v + k / 64) at) }
     where
-      go : (c v k : ℕ) → c < 6 → v < 32 → k < 256 → Dec (128 * c + 4 * v + k / 64 ≡ at) → mem (k % 64) (get_or (set t at (bit_or (get_or t at 0) bit)) (128 * c + 4 * v + k / 64) 0) ≡ either (ltb c (j + 1) & (eqb k i & eqb (in_column bs c i) v)) (in_index s c v k)
+      go : (c v k : ℕ) → c < 6 → v < 32 → k < 256 → Dec (128 * c + 4 * v + k / 64 ≡ at) → mem (k % 64) (get_or (set t at (bit_or (get_or t at 0) bit)) (128 * c + 4 * v + k / 64) 0) ≡ either (ltb c (j + 1) & (eqb k i & eqb (in_column row c) v)) (in_index s c v k)
       go c v k hc hv hk (yes e) = bit_here c v k e ∙ more_here c v k hc hv hk e
       go c v k hc hv hk (no e) = ap (λ (x : ℕ). mem (k % 64) x) (get_or-set_other t at (128 * c + 4 * v + k / 64) (bit_or (get_or t at 0) bit) 0 e) ∙ more_there c v k hc hv hk e
 
 -- one row more
-pub indexed_none : (bs : List ℕ) → Indexed 0 bs (replicate 768 0)
-unfolding in_index ◌&◌
-indexed_none bs c v i hc hv hi =
-    ap (λ (x : ℕ). mem (i % 64) x) (get_or-replicate 768 (128 * c + 4 * v + i / 64) 0 0 (omega arith)) ∙ has_none (i % 64)
-    ∙ sym (ap (λ (b : Bool). b & eqb (in_column bs c i) v) (le-ltb i 0 (omega arith)))
+module _ (rows : Tuples) where
+  pub indexed_none : IndexedTo rows 0 (replicate 768 0)
+  unfolding in_index ◌&◌
+  indexed_none c v i hc hv hi =
+      ap (λ (x : ℕ). mem (i % 64) x) (get_or-replicate 768 (128 * c + 4 * v + i / 64) 0 0 (omega arith)) ∙ has_none (i % 64)
+      ∙ sym (ap (λ (b : Bool). b & eqb (in_column (row_at rows i) c) v) (le-ltb i 0 (omega arith)))
 
-pub indexed_more : (bs s t : List ℕ) (i m : ℕ) → i + 1 ≡ m → Indexed i bs s → Entered bs i 6 s t → Indexed m bs t
-indexed_more bs s t i m e I E c v k hc hv hk = E.tells c v k hc hv hk ∙ ap (either (ltb c 6 & (eqb k i & eqb (in_column bs c i) v))) (I c v k hc hv hk) ∙ iff (λ z. to (or_case _ _ z)) (λ z. from z (ℕ_discrete k i))
-  where
-    to : (ltb c 6 & (eqb k i & eqb (in_column bs c i) v) ≡ true) ⊎ (ltb k i & eqb (in_column bs c k) v ≡ true) → ltb k m & eqb (in_column bs c k) v ≡ true
-    to (inl q) = let w : k ≡ i = eqb_eq (and_l _ _ (and_r _ _ q)) in and_i (lt-ltb k m (omega arith)) (ap (λ (x : ℕ). eqb (in_column bs c x) v) w ∙ and_r _ _ (and_r _ _ q))
-    to (inr q) = let l = ltb_lt k i (and_l _ _ q) in and_i (lt-ltb k m (omega arith)) (and_r _ _ q)
+  pub indexed_more : (s t : List ℕ) (i m : ℕ) → i + 1 ≡ m → IndexedTo rows i s → Entered (row_at rows i) i 6 s t → IndexedTo rows m t
+  indexed_more s t i m e I E c v k hc hv hk =
+      E.tells c v k hc hv hk
+      ∙ ap (either (ltb c 6 & (eqb k i & eqb (in_column (row_at rows i) c) v))) (I c v k hc hv hk)
+      ∙ iff (λ z. to (or_case _ _ z)) (λ z. from z (ℕ_discrete k i))
+    where
+      to : (ltb c 6 & (eqb k i & eqb (in_column (row_at rows i) c) v) ≡ true) ⊎ (ltb k i & eqb (in_column (row_at rows k) c) v ≡ true) → ltb k m & eqb (in_column (row_at rows k) c) v ≡ true
+      to (inl q) =
+          let w : k ≡ i = eqb_eq (and_l _ _ (and_r _ _ q)) in
+          and_i (lt-ltb k m (omega arith)) (ap (λ (x : ℕ). eqb (in_column (row_at rows x) c) v) w ∙ and_r _ _ (and_r _ _ q))
+      to (inr q) = let l = ltb_lt k i (and_l _ _ q) in and_i (lt-ltb k m (omega arith)) (and_r _ _ q)
 
-    from : ltb k m & eqb (in_column bs c k) v ≡ true → Dec (k ≡ i) → either (ltb c 6 & (eqb k i & eqb (in_column bs c i) v)) (ltb k i & eqb (in_column bs c k) v) ≡ true
-    from q (yes w) = or_l _ _ (and_i (lt-ltb c 6 hc) (and_i (eq-eqb _ _ w) (ap (λ (x : ℕ). eqb (in_column bs c x) v) (sym w) ∙ and_r _ _ q)))
-    from q (no w) = let l = ltb_lt k m (and_l _ _ q) in or_r _ _ (and_i (lt-ltb k i (omega arith)) (and_r _ _ q))
+      from : ltb k m & eqb (in_column (row_at rows k) c) v ≡ true → Dec (k ≡ i) → either (ltb c 6 & (eqb k i & eqb (in_column (row_at rows i) c) v)) (ltb k i & eqb (in_column (row_at rows k) c) v) ≡ true
+      from q (yes w) = or_l _ _ (and_i (lt-ltb c 6 hc) (and_i (eq-eqb _ _ w) (ap (λ (x : ℕ). eqb (in_column (row_at rows x) c) v) (sym w) ∙ and_r _ _ q)))
+      from q (no w) = let l = ltb_lt k m (and_l _ _ q) in or_r _ _ (and_i (lt-ltb k i (omega arith)) (and_r _ _ q))
 
--- what a row has in a column
-pub key_first : (bs : List ℕ) (c i : ℕ) → c ≡ 0 → length (row_at bs i) ≡ in_column bs c i
+-- what a row has in a column after the first
+key_later : (row : List ℕ) (j : ℕ) → in_column row (j + 1) ≡ get_or row j 0 % 32
 unfolding in_column
-key_first bs c i e = rw e
+key_later row j = ap (in_column row) (add-one j)
 
-pub key_later : (bs : List ℕ) (c i : ℕ) → (c ≡ 0 → ⊥) → get_or bs (6 * i + c) 0 % 32 ≡ in_column bs c i
-unfolding in_column
-key_later bs c i h = rw (ne_eqb c 0 h)
+pub key_low : (row : List ℕ) (j : ℕ) → in_column row (j + 1) < 32
+key_low row j = subst (λ (x : ℕ). x < 32) (sym (key_later row j)) (omega arith)
+
+-- the columns of a row with one field, with two, three, four
+module _ (s : ℕ) where
+  pub columns_one : (xs : List ℕ) → length xs ≡ 1 → table 6 (in_column (s ∷ xs)) ≡ (2 ∷ s % 32 ∷ get_or xs 0 0 % 32 ∷ 0 ∷ 0 ∷ 0 ∷ [])
+  unfolding in_column table table_from
+  columns_one (a ∷ []) h = refl
+  columns_one xs h = absurd (omega arith)
+
+  pub columns_two : (xs : List ℕ) → length xs ≡ 2 → table 6 (in_column (s ∷ xs)) ≡ (3 ∷ s % 32 ∷ get_or xs 0 0 % 32 ∷ get_or xs 1 0 % 32 ∷ 0 ∷ 0 ∷ [])
+  unfolding in_column table table_from
+  columns_two (a ∷ b ∷ []) h = refl
+  columns_two xs h = absurd (omega arith)
+
+  pub columns_three : (xs : List ℕ) → length xs ≡ 3 → table 6 (in_column (s ∷ xs)) ≡ (4 ∷ s % 32 ∷ get_or xs 0 0 % 32 ∷ get_or xs 1 0 % 32 ∷ get_or xs 2 0 % 32 ∷ 0 ∷ [])
+  unfolding in_column table table_from
+  columns_three (a ∷ b ∷ c ∷ []) h = refl
+  columns_three xs h = absurd (omega arith)
+
+  pub columns_four : (xs : List ℕ) → length xs ≡ 4 → table 6 (in_column (s ∷ xs)) ≡ (5 ∷ s % 32 ∷ get_or xs 0 0 % 32 ∷ get_or xs 1 0 % 32 ∷ get_or xs 2 0 % 32 ∷ get_or xs 3 0 % 32 ∷ [])
+  unfolding in_column table table_from
+  columns_four (a ∷ b ∷ c ∷ d ∷ []) h = refl
+  columns_four xs h = absurd (omega arith)
 
 pub bit_one : (p : ℕ) → p < 64 → 1 * 2 ^ p % 18446744073709551616 ≡ 2 ^ p
 bit_one p h = shl_exact {a = 1} 1 p 64 (omega arith) (omega arith) ∙ one-mul (2 ^ p)
@@ -315,56 +342,38 @@ and_swap false true = refl
 and_swap false false = refl
 
 -- in column j + 1 stands the site at place j
-row_key : (bs : List ℕ) (i j : ℕ) → i < 256 → length bs ≡ 1536 → all_below 32 (row_at bs i) ≡ true → j < length (row_at bs i) → in_column bs (j + 1) i ≡ get_or (row_at bs i) j 0
-row_key bs i j low long h l =
-    sym (key_later bs (j + 1) i (λ z. none z))
-    ∙ ap (λ (x : ℕ). get_or bs x 0 % 32) there
-    ∙ ap (λ (x : ℕ). x % 32) (sym (row_get bs i j low long l))
-    ∙ mod_low (get_or (row_at bs i) j 0) (row_low (row_at bs i) j h l)
+row_key : (row : List ℕ) (j : ℕ) → all_below 32 row ≡ true → j < length row → in_column row (j + 1) ≡ get_or row j 0
+row_key row j h l = key_later row j ∙ mod_low (get_or row j 0) (row_low row j h l)
   where
-    none : j + 1 ≡ 0 → ⊥
-    none z = omega arith
-
-    there : 6 * i + (j + 1) ≡ 6 * i + 1 + j
-    there = omega arith
-
     mod_low : (x : ℕ) → x < 32 → x % 32 ≡ x
     mod_low x h = omega arith
 
--- row i of n rows of sites, from place j on
-module _ (ms bs : List ℕ) (n m i : ℕ) (low : i < 256) (five : length ms ≡ 5) (most : m ≤ 5) (L : Low n bs) where
-  pub narrow_end : (a : Bool) → (a ≡ true → (i < n) × (length (row_at bs i) ≡ m)) → a ≡ (a & fits (drop m (Sets ms m)) (drop m (row_at bs i)))
+-- row i of rows of sites, from place j on
+module _ (ms : List ℕ) (rows : Tuples) (m i : ℕ) (five : length ms ≡ 5) (most : m ≤ 5) (L : Low rows) where
+  pub narrow_end : (a : Bool) → (a ≡ true → (i < rows.count) × (length (row_at rows i) ≡ m)) → a ≡ (a & fits (drop m (Sets ms m)) (drop m (row_at rows i)))
   unfolding ◌&◌
-  narrow_end true f = sym (fits_end (Sets ms m) (row_at bs i) m (omega (arith, sets_long_lem ms m most five)) (omega (arith, (f refl).1)))
+  narrow_end true f = sym (fits_end (Sets ms m) (row_at rows i) m (omega (arith, sets_long_lem ms m most five)) (omega (arith, (f refl).1)))
   narrow_end false f = refl
 
-  row_sites : i < n → all_below 32 (row_at bs i) ≡ true
-  unfolding rows_view
-  row_sites l = table_all (all_below 32) n (row_at bs) L.sites i l
-
-  site_low : (j : ℕ) → j < m → i < n → length (row_at bs i) ≡ m → get_or bs (6 * i + 1 + j) 0 < 32
-  site_low j h l e = subst (λ (x : ℕ). x < 32) (row_get bs i j low L.long (omega (arith, e))) (row_low (row_at bs i) j (row_sites l) (omega (arith, e)))
-
-  site_key : (j : ℕ) → j < m → i < n → length (row_at bs i) ≡ m → in_column bs (j + 1) i ≡ get_or bs (6 * i + 1 + j) 0
-  site_key j h l e = row_key bs i j low L.long (row_sites l) (omega (arith, e)) ∙ row_get bs i j low L.long (omega (arith, e))
-
-  narrow_at : (j : ℕ) → j < m → i < n → length (row_at bs i) ≡ m → (fits (drop (suc j) (Sets ms m)) (drop (suc j) (row_at bs i)) & mem (in_column bs (j + 1) i) (get_or ms j 0)) ≡ fits (drop j (Sets ms m)) (drop j (row_at bs i))
+  narrow_at : (j : ℕ) → j < m → i < rows.count → length (row_at rows i) ≡ m → (fits (drop (suc j) (Sets ms m)) (drop (suc j) (row_at rows i)) & mem (in_column (row_at rows i) (j + 1)) (get_or ms j 0)) ≡ fits (drop j (Sets ms m)) (drop j (row_at rows i))
+  unfolding tuples_of
   narrow_at j h l e =
-      ap (λ (x : ℕ). fits (drop (suc j) (Sets ms m)) (drop (suc j) (row_at bs i)) & mem x (get_or ms j 0)) (site_key j h l e)
+      let row = row_at rows i in
+      let rest = fits (drop (suc j) (Sets ms m)) (drop (suc j) row) in
+      let low : all_below 32 row ≡ true = table_all (all_below 32) rows.count (row_at rows) L i l in
+      let here : j < length row = omega (arith, e) in
+      ap (λ (x : ℕ). rest & mem x (get_or ms j 0)) (row_key row j low here)
       ∙ and_swap _ _
-      ∙ ap (λ (b : Bool). b & fits (drop (suc j) (Sets ms m)) (drop (suc j) (row_at bs i))) (among_low (get_or ms j 0) _ (site_low j h l e))
-      ∙ sym (fits_at ms bs m i j low L.long five most e h)
+      ∙ ap (λ (b : Bool). b & rest) (among_low (get_or ms j 0) _ (row_low row j low here))
+      ∙ sym (fits_at ms row m j five most e h)
 
-  pub narrow_down : (j : ℕ) → 0 < j → j ≤ m → (a : Bool) → (a ≡ true → (i < n) × (length (row_at bs i) ≡ m)) → ((a & fits (drop j (Sets ms m)) (drop j (row_at bs i))) & mem (in_column bs (j - 1 + 1) i) (get_or ms (j - 1) 0)) ≡ (a & fits (drop (j - 1) (Sets ms m)) (drop (j - 1) (row_at bs i)))
+  pub narrow_down : (j : ℕ) → 0 < j → j ≤ m → (a : Bool) → (a ≡ true → (i < rows.count) × (length (row_at rows i) ≡ m)) → ((a & fits (drop j (Sets ms m)) (drop j (row_at rows i))) & mem (in_column (row_at rows i) (j - 1 + 1)) (get_or ms (j - 1) 0)) ≡ (a & fits (drop (j - 1) (Sets ms m)) (drop (j - 1) (row_at rows i)))
   unfolding ◌&◌
-  narrow_down j p h true f = let back : j ≡ suc (j - 1) = omega arith in ap (λ (x : ℕ). fits (drop x (Sets ms m)) (drop x (row_at bs i)) & mem (in_column bs (j - 1 + 1) i) (get_or ms (j - 1) 0)) back ∙ narrow_at (j - 1) (omega arith) (f refl).0 (f refl).1
+  narrow_down j p h true f =
+      let back : j ≡ suc (j - 1) = omega arith in
+      ap (λ (x : ℕ). fits (drop x (Sets ms m)) (drop x (row_at rows i)) & mem (in_column (row_at rows i) (j - 1 + 1)) (get_or ms (j - 1) 0)) back
+      ∙ narrow_at (j - 1) (omega arith) (f refl).0 (f refl).1
   narrow_down j p h false f = refl
-
-pub key_low : (bs : List ℕ) (j i : ℕ) → in_column bs (j + 1) i < 32
-key_low bs j i = subst (λ (x : ℕ). x < 32) (key_later bs (j + 1) i (λ z. none z)) (omega arith)
-  where
-    none : j + 1 ≡ 0 → ⊥
-    none z = omega arith
 
 ones_none : ones 0 ≡ 0
 unfolding ones ones_in
@@ -561,9 +570,6 @@ pub singles_fit : (b : Bool) (t row : List ℕ) → (b ≡ true → all_below 32
 unfolding ◌&◌
 singles_fit true t row h = singles_are t row (h refl)
 singles_fit false t row h = refl
-
-pub filled_map : (f : ℕ → ℕ) (xs : List ℕ) {l₀ l : List ℕ} {m : ℕ} → Filled 0 (λ k. f (get_or xs k 0)) l₀ l m → m ≡ length xs → m ≤ length l₀ → take m l ≡ map f xs
-filled_map f xs {l = l} {m} F e h = ext_get_or 0 (take m l) (map f xs) (omega (arith, length-take m l, length-map xs f, F.long)) (λ k g. let b : k < m = omega (arith, length-take m l, F.long) in get_or-take m l k 0 b ∙ F.done k b ∙ sym (get_d_map f 0 xs k (omega arith)))
 
 -- how many sites a set has
 pub sites_ones : (m : ℕ) → m < 4294967296 → ones m ≡ length (sites m)

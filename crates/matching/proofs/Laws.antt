@@ -1,15 +1,17 @@
 -- Laws of the rules as the code tests them.
 -- Assumes nothing.
-use mathlib.Core.Path.{◌≡◌, refl, sym, ap, subst, ◌∙◌}
+use mathlib.Core.Path.{◌≡◌, refl, sym, ap, ap₂, subst, ◌∙◌}
 use mathlib.Core.Bool.{Bool, true, cond, false≢true}
-use mathlib.Core.List.{List, [], ◌∷◌, map}
+use mathlib.Core.List.{List, [], ◌∷◌, ◌++◌, map}
 use Prim.Native.Nat.{ℕ, zero, suc, ◌+◌, ◌*◌, ◌-◌, ◌<◌, ◌≤◌, min}
 use native.Mathlib.Omega.{arith}
+use native.Mathlib.Numerals.{add-one}
 use native.Mathlib.Nat.{min-eq_left, min-eq_right}
 use native.Mathlib.Decide.{dec_le}
 use lib.Dec.{eqb}
-use lib.ListN.{length, get_or, take, drop, length-take, length-drop, length-map, length-append, drop_of_length-le}
-use lib.Seq.{drop-cons, get_or-take, get_or-drop}
+use lib.ListN.{length, get_or, take, drop, set, length-take, length-map, length-append, drop_of_length-le}
+use lib.Seq.{take-suc-set, drop-cons, get_or-take}
+use Rattle.std.proofs.lemmas.List.{get_or-map, get_or_default, map_more}
 use Rattle.sets.specs.Lists.{All, done, more, ◌&◌, any, only, keep, among, table_from, table, same, fits, product}
 use Rattle.sets.specs.Bits.{mem, sites}
 use Rattle.sets.proofs.Lists.{iff, and_r, among_in, any_i, eq-eqb, eqb_eq, only_long, keep_snoc}
@@ -19,26 +21,12 @@ use Rattle.sets.proofs.Bits.{sites_in_lem, in_sites}
 use Rattle.klaim.specs.Invariant.{distinct}
 use Rattle.klaim.specs.Analysis.{choices}
 use Rattle.klaim.proofs.Choices.{choices_count, sites_unlike}
-use Rattle.tables.specs.View.{row_at}
-use Rattle.tables.proofs.LineTable.{get_d_map}
+use Rattle.tables.specs.declared.table.Table.{Table}
 
 -- a site is in a set as the code tests it
 pub among_low : (m v : ℕ) → v < 32 → mem v m ≡ among (sites m) v
 unfolding among
 among_low m v h = iff (λ t. any_i (eqb v) (sites_in_lem m v h t) (eq-eqb v)) (λ t. (in_sites m v (among_in (sites m) v t)).1)
-
--- the sites of a row
-pub row_long : (bs : List ℕ) (i : ℕ) → i < 256 → length bs ≡ 1536 → length (row_at bs i) ≡ min (get_or bs (6 * i) 0) 5
-unfolding row_at
-row_long bs i h e =
-    omega (arith, length-take (get_or bs (6 * i) 0) (take 5 (drop (6 * i + 1) bs)), length-take 5 (drop (6 * i + 1) bs), length-drop (6 * i + 1) bs)
-
-pub row_get : (bs : List ℕ) (i j : ℕ) → i < 256 → length bs ≡ 1536 → j < length (row_at bs i) → get_or (row_at bs i) j 0 ≡ get_or bs (6 * i + 1 + j) 0
-unfolding row_at
-row_get bs i j h e l =
-    let n = length-take (get_or bs (6 * i) 0) (take 5 (drop (6 * i + 1) bs)) in
-    let m = length-take 5 (drop (6 * i + 1) bs) in
-    get_or-take (get_or bs (6 * i) 0) (take 5 (drop (6 * i + 1) bs)) j 0 (omega arith) ∙ get_or-take 5 (drop (6 * i + 1) bs) j 0 (omega arith) ∙ get_or-drop (6 * i + 1) bs j 0
 
 -- the sets of sites of the first m reaches
 abbrev pub Sets : List ℕ → ℕ → List (List ℕ)
@@ -73,18 +61,17 @@ keep_none p f = refl
 
 -- the sets at place j
 sets_get : (ms : List ℕ) (m j : ℕ) → j < m → m ≤ 5 → length ms ≡ 5 → get_or (Sets ms m) j [] ≡ sites (get_or ms j 0)
-sets_get ms m j h l e = get_d_map sites [] (take m ms) j (omega (arith, length-take m ms)) ∙ ap sites (get_or-take m ms j 0 h)
+sets_get ms m j h l e = get_or-map sites (take m ms) j 0 [] (omega (arith, length-take m ms)) ∙ ap sites (get_or-take m ms j 0 h)
 
 pub sets_long_lem : (ms : List ℕ) (m : ℕ) → m ≤ 5 → length ms ≡ 5 → length (Sets ms m) ≡ m
 sets_long_lem ms m l e = length-map (take m ms) sites ∙ omega (arith, length-take m ms)
 
--- row i, from place j on, where it has m sites
-module _ (ms bs : List ℕ) (m i j : ℕ) (low : i < 256) (long : length bs ≡ 1536) (five : length ms ≡ 5) (most : m ≤ 5) (same_long : length (row_at bs i) ≡ m) (here : j < m) where
-  pub fits_at : fits (drop j (Sets ms m)) (drop j (row_at bs i)) ≡ (among (sites (get_or ms j 0)) (get_or bs (6 * i + 1 + j) 0) & fits (drop (suc j) (Sets ms m)) (drop (suc j) (row_at bs i)))
+-- a row, from place j on, where it has m sites
+module _ (ms row : List ℕ) (m j : ℕ) (five : length ms ≡ 5) (most : m ≤ 5) (same_long : length row ≡ m) (here : j < m) where
+  pub fits_at : fits (drop j (Sets ms m)) (drop j row) ≡ (among (sites (get_or ms j 0)) (get_or row j 0) & fits (drop (suc j) (Sets ms m)) (drop (suc j) row))
   fits_at =
-      fits_from (Sets ms m) (row_at bs i) j (omega (arith, sets_long_lem ms m most five)) (omega (arith, same_long))
-      ∙ ap (λ (xs : List ℕ). among xs (get_or (row_at bs i) j 0) & fits (drop (suc j) (Sets ms m)) (drop (suc j) (row_at bs i))) (sets_get ms m j here most five)
-      ∙ ap (λ (v : ℕ). among (sites (get_or ms j 0)) v & fits (drop (suc j) (Sets ms m)) (drop (suc j) (row_at bs i))) (row_get bs i j low long (omega (arith, same_long)))
+      fits_from (Sets ms m) row j (omega (arith, sets_long_lem ms m most five)) (omega (arith, same_long))
+      ∙ ap (λ (xs : List ℕ). among xs (get_or row j 0) & fits (drop (suc j) (Sets ms m)) (drop (suc j) row)) (sets_get ms m j here most five)
 
 -- the number of choices, from place j on, at most 257
 cap : (c p : ℕ) → min (c * min p 257) 257 ≡ min (c * p) 257
@@ -133,3 +120,24 @@ count_rule ms m rows have need d h few e =
 
     to : have ≡ need → eqb have need ≡ true
     to q = subst (λ (x : ℕ). eqb have x ≡ true) q (eq-eqb have)
+
+-- each element has what all have
+pub all_nth : {A : Type 0} {P : A → Type 0} {xs : List A} → All P xs → (k : ℕ) {x : A} → k < length xs → x ≡ get_or xs k x → P x
+all_nth {xs = []} h k l e = absurd (omega arith)
+all_nth {P = P} {xs = y ∷ ys} (more p h) zero l e = subst P (sym e) p
+all_nth {xs = y ∷ ys} (more p h) (suc k) l e = all_nth h k (omega arith) e
+
+-- one more set is stored
+pub sets_more : {A : Type 0} (f : A → ℕ) (v : ℕ) (xs : List A) (r : List ℕ) (j y : ℕ) {x : A} → length r ≡ 5 → j < 4 → j < length xs → x ≡ get_or xs j x → take (j + 1) r ≡ v ∷ map f (take j xs) → y ≡ f x → take (j + 1 + 1) (set r (j + 1) y) ≡ v ∷ map f (take (j + 1) xs)
+sets_more f v xs r j y {x} five low here at e w =
+    ap (λ (n : ℕ). take n (set r (j + 1) y)) (add-one (j + 1))
+    ∙ take-suc-set r (j + 1) y (omega arith)
+    ∙ ap₂ (λ (l : List ℕ) (z : ℕ). l ++ (z ∷ [])) e (w ∙ ap f at)
+    ∙ ap (λ (l : List ℕ). v ∷ l) (sym (map_more f xs j x here))
+
+-- an entry as it is read from the slice of the entries
+pub entry_read : {A : Type 0} {N : ℕ} (t : Table A N) (i : ℕ) (d e : A) → i < t.count → {xs : List A} → xs ≡ take t.count t.items → get_or xs i d ≡ get_or t.items i e
+entry_read {A} t i d e h q =
+    ap (λ (xs : List A). get_or xs i d) q
+    ∙ get_or-take t.count t.items i d h
+    ∙ get_or_default t.items i d e (omega (arith, h, t.few, t.long))

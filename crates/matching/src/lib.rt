@@ -1,16 +1,18 @@
 //! Rows of tuples held against sets of sites: one set for a tuple's site, and one for each field.
 #![tactic(auto)]
 
-ghost use Rattle.std.specs.Prelude.{◌≡◌, true, not, List, map, ℕ, ◌<◌, ◌≤◌, ◌*◌, ◌^◌, min, ltb, length, take};
-ghost use Rattle.sets.specs.Lists.{◌&◌, either, imp, all, any, keep, same, below, fits, product};
+ghost use Rattle.std.specs.Prelude.{◌≡◌, true, not, ◌∷◌, map, ℕ, ◌<◌, ◌≤◌, ◌+◌, ◌*◌, ◌^◌, min, ltb, length, take, get_or};
+ghost use Rattle.sets.specs.Lists.{All, ◌&◌, either, imp, all, any, keep, same, below, table, fits, product};
 ghost use Rattle.sets.specs.Bits.{mem, sites};
 ghost use Rattle.klaim.specs.Analysis.{choices as all_choices};
 ghost use Rattle.klaim.specs.Invariant.{all_below, distinct};
-ghost use Rattle.tables.specs.View.{row_at, rows_view};
+ghost use Rattle.klaim.specs.Fields.{items};
+ghost use Rattle.tables.specs.View.{Tuples as Rows, row_at, tuple_view, tuples_of};
 ghost use Rattle.matching.specs.Index.{in_column, in_rows, in_index, Indexed, Entered, Low, Long};
 
+use klaim::Fields;
 use std::array;
-use tables::Tuples;
+use tables::{SITES, Tuple, Tuples};
 
 // More than the rows of a table.
 const MANY: u32 = 257;
@@ -19,16 +21,6 @@ const MANY: u32 = 257;
 pub const ANY: u32 = 4294967295;
 
 const HALF: u32 = 16;
-
-// How many sites row i of a table of tuples has.
-pub fn row_len(rows: &Tuples, i: usize) -> usize
-    requires { i < 256 }
-    ensures value { result ≡ length (row_at rows.now.bytes i) }
-    ensures most { result ≤ 5 }
-{
-    let n = rows.bytes[6 * i] as usize;
-    n.min(5)
-}
 
 // How many sites a set has.
 fn count_sites(set: u32) -> u32
@@ -57,55 +49,63 @@ fn choices(reaches: [u32; 5], m: usize) -> u32
     p
 }
 
-// The columns of an index: in column 0 stands how many sites a row has, in column c its c-th site.
+// The columns of an index: in column 0 stands how many sites a row has, in the others its sites in order.
 const COLUMNS: usize = 6;
+
+// The words of a set of rows.
+const WORDS: usize = 4;
+
+const CELLS: usize = COLUMNS * SITES * WORDS;
 
 // For each column and each number the set of the rows that have it there: from place 128 * c + 4 * v on, that of the rows with v in
 // column c.
 #[derive(Clone, Copy)]
 pub struct RowIndex {
-    pub sets: [u64; 768],
+    pub sets: [u64; CELLS],
 }
 
-// A set of rows: row i is bit i % 64 of number i / 64.
+// A set of rows: row i is bit i % 64 of word i / 64.
 #[derive(Clone, Copy)]
 struct RowSet {
-    words: [u64; 4],
+    words: [u64; WORDS],
 }
 
-// What row i has in column c.
-fn key(rows: &Tuples, i: usize, c: usize) -> usize
-    requires { (i < 256) × (c < 6) }
-    ensures { (result ≡ in_column rows.now.bytes c i) × (result < 32) }
+// What a tuple has in each column: 0 past its end.
+fn columns(tuple: &Tuple) -> [u8; COLUMNS]
+    ensures value { result ≡ table 6 (in_column (tuple_view tuple.now)) }
+    ensures low { (c : ℕ) → c < 6 → get_or result c 0 < 32 }
 {
-    if c == 0 {
-        return row_len(rows, i);
+    let s = tuple.site % 32;
+    match &tuple.fields {
+        Fields::One(a) => [2, s, a[0] % 32, 0, 0, 0],
+        Fields::Two(a) => [3, s, a[0] % 32, a[1] % 32, 0, 0],
+        Fields::Three(a) => [4, s, a[0] % 32, a[1] % 32, a[2] % 32, 0],
+        Fields::Four(a) => [5, s, a[0] % 32, a[1] % 32, a[2] % 32, a[3] % 32],
     }
-    rows.bytes[6 * i + c] as usize % 32
 }
 
 impl RowIndex {
     // The index of the rows.
     pub fn of(rows: &Tuples) -> RowIndex
-        requires { rows.now.count ≤ 256 }
-        ensures { Indexed rows.now.count rows.now.bytes result.sets }
+        ensures { Indexed rows.now result.sets }
     {
-        let mut index = RowIndex { sets: [0; 768] };
-        for i in 0..rows.count {
-            index.enter(rows, i);
+        let mut index = RowIndex { sets: [0; CELLS] };
+        for (i, row) in rows.as_slice().iter().enumerate() {
+            index.enter(row, i);
         }
         index
     }
 
-    // Row i put into the index.
-    fn enter(&mut self, rows: &Tuples, i: usize)
+    // A row put into the index, as row i.
+    fn enter(&mut self, row: &Tuple, i: usize)
         requires { i < 256 }
-        ensures { Entered rows.now.bytes i 6 self.old.sets self.new.sets }
+        ensures { Entered (tuple_view row.now) i 6 self.old.sets self.new.sets }
     {
         let bit = 1u64 << (i % 64);
+        let columns = columns(row);
         for c in 0..COLUMNS {
-            let at = 128 * c + 4 * key(rows, i, c) + i / 64;
-            self.sets[at] = self.sets[at] | bit;
+            let at = 128 * c + 4 * usize::from(columns[c]) + i / 64;
+            self.sets[at] |= bit;
         }
     }
 
@@ -145,17 +145,18 @@ fn in_first(x: RowSet, y: RowSet) -> RowSet
     }
 }
 
-// The rows whose site in column c is in the set. Each turn takes the least site out of the rest.
+// The rows whose site in column c is in the set.
 fn rows_in(index: &RowIndex, c: usize, set: u32) -> RowSet
     requires { c < 6 }
-    ensures { (n : ℕ) (bs : List ℕ) → Indexed n bs index.now.sets → (i : ℕ) → i < 256 → in_rows result.words i ≡ (ltb i n & mem (in_column bs c i) set) }
+    ensures { (rows : Rows) → Indexed rows index.now.sets → (i : ℕ) → i < 256 → in_rows result.words i ≡ (ltb i rows.count & mem (in_column (row_at rows i) c) set) }
 {
-    let mut r = RowSet { words: [0; 4] };
+    let mut r = RowSet { words: [0; WORDS] };
     let mut rest = set;
+    // A `while`: each turn takes the least site out of the rest, and only the sites of the set have a turn.
     while rest != 0 {
         let v = rest.trailing_zeros();
         r = in_either(r, index.rows_with(c, v as usize));
-        rest = rest & (rest - 1);
+        rest &= rest - 1;
     }
     r
 }
@@ -164,7 +165,7 @@ fn rows_in(index: &RowIndex, c: usize, set: u32) -> RowSet
 // index; where it has most sites, those with another site are left out.
 fn kept(index: &RowIndex, had: RowSet, c: usize, set: u32) -> RowSet
     requires { c < 6 }
-    ensures { (n : ℕ) (bs : List ℕ) → Indexed n bs index.now.sets → (i : ℕ) → i < 256 → in_column bs c i < 32 → (in_rows had.words i ≡ true → i < n) → in_rows result.words i ≡ (in_rows had.words i & mem (in_column bs c i) set) }
+    ensures { (rows : Rows) → Indexed rows index.now.sets → (i : ℕ) → i < 256 → in_column (row_at rows i) c < 32 → (in_rows had.words i ≡ true → i < rows.count) → in_rows result.words i ≡ (in_rows had.words i & mem (in_column (row_at rows i) c) set) }
 {
     if set == ANY {
         return had;
@@ -178,7 +179,7 @@ fn kept(index: &RowIndex, had: RowSet, c: usize, set: u32) -> RowSet
 // Of some rows with m sites those with each site within its set.
 fn narrowed(index: &RowIndex, had: RowSet, reaches: [u32; 5], m: usize) -> RowSet
     requires { m ≤ 5 }
-    ensures { (n : ℕ) (bs : List ℕ) → Indexed n bs index.now.sets → Low n bs → Long n bs m had.words → (i : ℕ) → i < 256 → in_rows result.words i ≡ (in_rows had.words i & fits (map sites (take m reaches)) (row_at bs i)) }
+    ensures { (rows : Rows) → Indexed rows index.now.sets → Low rows → Long rows m had.words → (i : ℕ) → i < 256 → in_rows result.words i ≡ (in_rows had.words i & fits (map sites (take m reaches)) (row_at rows i)) }
 {
     let mut r = had;
     for j in (0..m).rev() {
@@ -190,7 +191,7 @@ fn narrowed(index: &RowIndex, had: RowSet, reaches: [u32; 5], m: usize) -> RowSe
 // The rows with m sites, each within its set.
 fn chosen(index: &RowIndex, reaches: [u32; 5], m: usize) -> RowSet
     requires { m ≤ 5 }
-    ensures { (n : ℕ) (bs : List ℕ) → Indexed n bs index.now.sets → Low n bs → (i : ℕ) → i < 256 → in_rows result.words i ≡ (ltb i n & fits (map sites (take m reaches)) (row_at bs i)) }
+    ensures { (rows : Rows) → Indexed rows index.now.sets → Low rows → (i : ℕ) → i < 256 → in_rows result.words i ≡ (ltb i rows.count & fits (map sites (take m reaches)) (row_at rows i)) }
 {
     let had = index.rows_with(0, m);
     narrowed(index, had, reaches, m)
@@ -214,7 +215,7 @@ fn same_rows(x: RowSet, y: RowSet) -> bool
 // Whether each row that lies within the sets `want` lies within the sets `allow` too.
 pub fn every_bound(index: &RowIndex, want: [u32; 5], allow: [u32; 5], m: usize) -> bool
     requires { m ≤ 5 }
-    ensures { (n : ℕ) (bs : List ℕ) → Indexed n bs index.now.sets → Low n bs → result ≡ all (λ row. imp (fits (map sites (take m want)) row) (fits (map sites (take m allow)) row)) (rows_view n bs) }
+    ensures { (rows : Rows) → Indexed rows index.now.sets → Low rows → result ≡ all (λ row. imp (fits (map sites (take m want)) row) (fits (map sites (take m allow)) row)) (tuples_of rows) }
 {
     let wanted = chosen(index, want, m);
     let both = narrowed(index, wanted, allow, m);
@@ -225,7 +226,7 @@ pub fn every_bound(index: &RowIndex, want: [u32; 5], allow: [u32; 5], m: usize) 
 // The rows are distinct, so it is enough to count those within the sets.
 pub fn every_choice(index: &RowIndex, reaches: [u32; 5], m: usize) -> bool
     requires { m ≤ 5 }
-    ensures { (n : ℕ) (bs : List ℕ) → Indexed n bs index.now.sets → Low n bs → distinct (rows_view n bs) ≡ true → result ≡ all_choices (map sites (take m reaches)) (λ t. any (same t) (rows_view n bs)) }
+    ensures { (rows : Rows) → Indexed rows index.now.sets → Low rows → distinct (tuples_of rows) ≡ true → result ≡ all_choices (map sites (take m reaches)) (λ t. any (same t) (tuples_of rows)) }
 {
     let need = choices(reaches, m);
     if MANY <= need {
@@ -235,24 +236,31 @@ pub fn every_choice(index: &RowIndex, reaches: [u32; 5], m: usize) -> bool
     have == need
 }
 
-// For each of the m sites of tuple i the set of it alone.
-fn singles(tuples: &Tuples, i: usize, m: usize) -> [u32; 5]
-    requires { (i < 256) × (m ≤ 5) × (m ≡ length (row_at tuples.now.bytes i)) × (all_below 32 (row_at tuples.now.bytes i) ≡ true) }
-    ensures { take m result ≡ map (λ v. 2 ^ v) (row_at tuples.now.bytes i) }
+// The given set for the target, then one for each field.
+pub fn sets_of<T: Copy, F: Fn(T) -> u32>(fields: &Fields<T>, first: u32, set: F) -> [u32; 5]
+    requires { All (F.pre set) (items fields.now) }
+    ensures { (g : T → ℕ) → ((x : T) (y : ℕ) → F.post set x y → y ≡ g x) → take (length (items fields.now) + 1) result ≡ first ∷ map g (items fields.now) }
 {
-    let mut r = [0u32; 5];
-    for j in 0..m {
-        r[j] = sets::single(tuples.bytes[6 * i + 1 + j]);
+    let mut sets = [first, 0, 0, 0, 0];
+    for (j, x) in fields.as_slice().iter().enumerate() {
+        sets[j + 1] = set(*x);
     }
-    r
+    sets
 }
 
-// Whether tuple i has a row.
-pub fn has_row(index: &RowIndex, tuples: &Tuples, i: usize) -> bool
-    requires { (i < 256) × (all_below 32 (row_at tuples.now.bytes i) ≡ true) }
-    ensures { (n : ℕ) (bs : List ℕ) → Indexed n bs index.now.sets → Low n bs → result ≡ any (same (row_at tuples.now.bytes i)) (rows_view n bs) }
+// For each site of a tuple the set of it alone.
+fn singles(tuple: &Tuple) -> [u32; 5]
+    requires { all_below 32 (tuple_view tuple.now) ≡ true }
+    ensures { take (length (tuple_view tuple.now)) result ≡ map (λ v. 2 ^ v) (tuple_view tuple.now) }
 {
-    let m = row_len(tuples, i);
-    let sets = singles(tuples, i, m);
-    count_rows(chosen(index, sets, m)) != 0
+    sets_of(&tuple.fields, sets::single(tuple.site), |v| sets::single(v))
+}
+
+// Whether the tuple is one of the rows.
+pub fn has_row(index: &RowIndex, tuple: &Tuple) -> bool
+    requires { all_below 32 (tuple_view tuple.now) ≡ true }
+    ensures { (rows : Rows) → Indexed rows index.now.sets → Low rows → result ≡ any (same (tuple_view tuple.now)) (tuples_of rows) }
+{
+    let within = chosen(index, singles(tuple), tuple.len());
+    count_rows(within) != 0
 }

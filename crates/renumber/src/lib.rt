@@ -1,39 +1,44 @@
 //! An arrival's lines moved behind the present ones.
 #![tactic(auto)]
 
-ghost use Rattle.std.specs.Prelude.{◌≡◌, true, ◌++◌, map, ◌+◌, ◌%◌, ◌≤◌, ◌<◌, length};
-ghost use Rattle.klaim.specs.Process.{move, ordered};
-ghost use Rattle.tables.specs.View.{lines_of};
-ghost use Rattle.renumber.specs.Renumber.{moved_bytes};
+ghost use Rattle.std.specs.Prelude.{◌≡◌, true, ◌++◌, map, ℕ, ◌+◌, ◌≤◌, ◌<◌};
+ghost use Rattle.sets.specs.Lists.{Elem};
+ghost use Rattle.klaim.specs.Process.{children, move, ordered};
+ghost use Rattle.tables.specs.View.{action_line, lines_of};
 
-use tables::{COUNT, FIELD, LINE, LINES, Lines, NEXT, SANDBOX, SECOND, TARGET};
+use tables::{Action, Line, Lines};
 
-// The number of a child, n lines further on; a place that its kind leaves unused may wrap.
+// The number of a child, n lines further on.
 fn shifted(child: u8, n: usize) -> u8
-    requires { n ≤ 256 }
-    ensures { result ≡ (n + child) % 256 }
+    requires { n + child < 256 }
+    ensures { result ≡ n + child }
 {
-    ((n + usize::from(child)) % LINES) as u8
+    (n + usize::from(child)) as u8
 }
 
-// The bytes of line q, its children n lines further on.
-fn moved(lines: &Lines, q: usize, n: usize) -> [u8; LINE]
-    requires { (q < 256) × (n ≤ 256) }
-    ensures { result ≡ moved_bytes n lines.now.bytes q }
+// A line whose children stand n lines further on.
+fn moved(line: Line, n: usize) -> Line
+    requires { (c : ℕ) → Elem c (children (action_line line.action)) → n + c < 256 }
+    ensures { action_line result.action ≡ move n (action_line line.action) }
 {
-    let at = LINE * q;
-    [
-        lines.bytes[at],
-        shifted(lines.bytes[at + NEXT], n),
-        shifted(lines.bytes[at + SECOND], n),
-        lines.bytes[at + SANDBOX],
-        lines.bytes[at + TARGET],
-        lines.bytes[at + COUNT],
-        lines.bytes[at + FIELD],
-        lines.bytes[at + FIELD + 1],
-        lines.bytes[at + FIELD + 2],
-        lines.bytes[at + FIELD + 3],
-    ]
+    let mut action = line.action;
+    match &mut action {
+        Action::Nil => {}
+        Action::Par { next, second } => {
+            *next = shifted(*next, n);
+            *second = shifted(*second, n);
+        }
+        Action::Eval { next, body, .. } => {
+            *next = shifted(*next, n);
+            *body = shifted(*body, n);
+        }
+        Action::Rep { next } => *next = shifted(*next, n),
+        Action::Out { next, .. } => *next = shifted(*next, n),
+        Action::In { next, .. } => *next = shifted(*next, n),
+        Action::Read { next, .. } => *next = shifted(*next, n),
+        Action::Accept { next, .. } => *next = shifted(*next, n),
+    }
+    Line { action }
 }
 
 // The lines of an arrival, put behind those that stand there.
@@ -42,11 +47,9 @@ pub fn append_moved(lines: &mut Lines, arrival: &Lines)
     requires in_order { ordered (lines_of arrival.now) ≡ true }
     ensures list { lines_of lines.new ≡ lines_of lines.old ++ map (move lines.old.count) (lines_of arrival.now) }
     ensures count { lines.new.count ≡ lines.old.count + arrival.now.count }
-    ensures long { length lines.new.bytes ≡ 2560 }
 {
     let n = lines.count;
     for q in 0..arrival.count {
-        places::put_at(&mut lines.bytes, n + q, moved(arrival, q, n));
+        lines.push(moved(arrival.items[q], n));
     }
-    lines.count = n + arrival.count;
 }

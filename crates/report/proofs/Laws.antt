@@ -1,25 +1,24 @@
 -- Laws of the report as the code collects it.
 -- Assumes nothing.
 use mathlib.Core.Path.{◌≡◌, refl, sym, ap, ap₂, subst, ◌∙◌}
-use mathlib.Core.Bool.{Bool, true, false, false≢true}
-use mathlib.Core.List.{List, []}
+use mathlib.Core.List.{List}
 use Prim.Native.Nat.{ℕ, ◌+◌, ◌*◌, ◌/◌, ◌%◌, ◌<◌}
 use native.Mathlib.Omega.{arith}
 use lib.Bits.{or_zero_r}
-use lib.ListN.{length, get_or, set}
+use lib.ListN.{length, get_or}
 use lib.Seq.{ext_get_or}
-use Rattle.sets.specs.Lists.{all, table, below}
+use Rattle.sets.specs.Lists.{table}
 use Rattle.sets.specs.Bits.{mem, join, grant, less}
-use Rattle.sets.proofs.Lists.{all_at}
-use Rattle.sets.proofs.Tables.{get_or_table, length_table, same_table, Filled, filled_more, below_in}
+use Rattle.sets.proofs.Tables.{get_or_table, length_table, same_table}
 use Rattle.klaim.specs.declared.Loc.{Loc}
-use Rattle.klaim.specs.Process.{Line, Tree, node, tree}
+use Rattle.klaim.specs.Process.{Tree, node, tree}
 use Rattle.klaim.specs.Net.{Net, Estimate, home, holds}
 use Rattle.klaim.specs.Analysis.{reach}
 use Rattle.klaim.specs.Report.{sure, uses, eval_adds, adds, hold_adds}
 use Rattle.tables.specs.declared.Action.{Action}
 use Rattle.tables.specs.declared.Action.TheVariants.{Nil, Par, Rep, Out, In, Read, Eval, Accept}
-use Rattle.tables.specs.View.{field_bytes, lines_view, action_line, LowLoc, Decoded, InForm}
+use Rattle.tables.specs.Low.{LowLoc}
+use Rattle.tables.specs.View.{Lines, lines_of, action_line, ActionAt, InForm}
 use Rattle.tables.proofs.LineTable.{tree_at, Child, Next as NextOf, next}
 use Rattle.flow.proofs.Laws.{at_table}
 use Rattle.report.specs.declared.Evals.{Evals}
@@ -53,22 +52,22 @@ unfolding eval_adds
 add_eval N E a m k b u l = same_table 1024 _ _ 0 (λ i h. ap (λ (x : ℕ). join (get_or a i 0) (grant (mem (i / 32) m) x)) (less_at N E m k b u l (i % 32) (omega arith)))
 
 -- what the recursion meets in each arm: the children, and numbers within limits
-abbrev pub Below : ℕ → List ℕ → ℕ → Evals → Type 0
-Below n bs q Nothing = Unit {0}
-Below n bs q (Both a b) = Child n bs q a × Child n bs q b
-Below n bs q (Next a) = Child n bs q a × Unit {0}
-Below n bs q (Sends a g b k) = Child n bs q a × LowLoc g × Child n bs q b × (k < 32)
+abbrev pub Below : Lines → ℕ → Evals → Type 0
+Below t q Nothing = Unit {0}
+Below t q (Both a b) = Child t q a × Child t q b
+Below t q (Next a) = Child t q a × Unit {0}
+Below t q (Sends a g b k) = Child t q a × LowLoc g × Child t q b × (k < 32)
 
-below_of : (n : ℕ) (bs : List ℕ) (q : ℕ) (x : Action) → NextOf n bs q x → Below n bs q (evals_of x)
+below_of : (t : Lines) (q : ℕ) (x : Action) → NextOf t q x → Below t q (evals_of x)
 unfolding evals_of
-below_of n bs q Nil h = tt
-below_of n bs q (Par a b) h = h
-below_of n bs q (Rep a) h = h
-below_of n bs q (Out a g k) h = (h.0, tt)
-below_of n bs q (In a g k) h = (h.0, tt)
-below_of n bs q (Read a g k) h = (h.0, tt)
-below_of n bs q (Eval a g b k) h = h
-below_of n bs q (Accept a k) h = (h.0, tt)
+below_of t q Nil h = tt
+below_of t q (Par a b) h = h
+below_of t q (Rep a) h = h
+below_of t q (Out a g k) h = (h.0, tt)
+below_of t q (In a g k) h = (h.0, tt)
+below_of t q (Read a g k) h = (h.0, tt)
+below_of t q (Eval a g b k) h = h
+below_of t q (Accept a k) h = (h.0, tt)
 
 -- what the eval lines of a line add, its children's processes given by their numbers
 unfoldable pub adds_by : (N : Net) (E : Estimate) (P : ℕ) → (ℕ → Tree) → Evals → ℕ → ℕ → ℕ
@@ -77,29 +76,29 @@ adds_by N E P f (Both a b) s t = join (adds N E P (f a) s t) (adds N E P (f b) s
 adds_by N E P f (Next a) s t = adds N E P (f a) s t
 adds_by N E P f (Sends a g b k) s t = join (eval_adds N E (reach E P g) k (f b) s t) (join (adds N E (reach E P g) (f b) s t) (adds N E P (f a) s t))
 
-adds_of : (N : Net) (E : Estimate) (P : ℕ) (f : ℕ → Tree) (q : ℕ) (fs : List ℕ) (x : Action) (s t : ℕ) → adds_by N E P f (evals_of x) s t ≡ adds N E P (node f q (action_line x fs)) s t
+adds_of : (N : Net) (E : Estimate) (P : ℕ) (f : ℕ → Tree) (q : ℕ) (x : Action) (s t : ℕ) → adds_by N E P f (evals_of x) s t ≡ adds N E P (node f q (action_line x)) s t
 unfolding adds_by evals_of adds node action_line
-adds_of N E P f q fs Nil s t = refl
-adds_of N E P f q fs (Par a b) s t = refl
-adds_of N E P f q fs (Rep a) s t = refl
-adds_of N E P f q fs (Out a g n) s t = refl
-adds_of N E P f q fs (In a g n) s t = refl
-adds_of N E P f q fs (Read a g n) s t = refl
-adds_of N E P f q fs (Eval a g b k) s t = refl
-adds_of N E P f q fs (Accept a k) s t = refl
+adds_of N E P f q Nil s t = refl
+adds_of N E P f q (Par a b) s t = refl
+adds_of N E P f q (Rep a) s t = refl
+adds_of N E P f q (Out a g fs) s t = refl
+adds_of N E P f q (In a g fs) s t = refl
+adds_of N E P f q (Read a g fs) s t = refl
+adds_of N E P f q (Eval a g b k) s t = refl
+adds_of N E P f q (Accept a k) s t = refl
 
 -- line q by what its eval lines add
-module _ {n : ℕ} {bs : List ℕ} {q : ℕ} (w : InForm n bs q) {r : Action} (d : Decoded bs q r) {p x : Evals} (h : p ≡ evals_of r) (e : p ≡ x) where
-  pub below_at : Below n bs q x
-  below_at = subst (Below n bs q) (sym h ∙ e) (below_of n bs q r (next w d refl))
+module _ {t : Lines} {q : ℕ} (w : InForm t q) {r : Action} (d : ActionAt t q r) {p x : Evals} (h : p ≡ evals_of r) (e : p ≡ x) where
+  pub below_at : Below t q x
+  below_at = subst (Below t q) (sym h ∙ e) (below_of t q r (next w d refl))
 
-  pub adds_at : (N : Net) (E : Estimate) (P s t : ℕ) → adds_by N E P (tree (lines_view n bs)) x s t ≡ adds N E P (tree (lines_view n bs) q) s t
-  adds_at N E P s t =
-      ap (λ (y : Evals). adds_by N E P (tree (lines_view n bs)) y s t) (sym e ∙ h)
-      ∙ adds_of N E P (tree (lines_view n bs)) q (field_bytes bs q) r s t
-      ∙ ap (λ (y : Tree). adds N E P y s t) (sym (tree_at w d refl))
+  pub adds_at : (N : Net) (E : Estimate) (P s o : ℕ) → adds_by N E P (tree (lines_of t)) x s o ≡ adds N E P (tree (lines_of t) q) s o
+  adds_at N E P s o =
+      ap (λ (y : Evals). adds_by N E P (tree (lines_of t)) y s o) (sym e ∙ h)
+      ∙ adds_of N E P (tree (lines_of t)) q r s o
+      ∙ ap (λ (y : Tree). adds N E P y s o) (sym (tree_at w d refl))
 
-  pub report_at_lem : (N : Net) (E : Estimate) (P : ℕ) (a : List ℕ) → table 1024 (λ i. join (get_or a i 0) (adds_by N E P (tree (lines_view n bs)) x (i / 32) (i % 32))) ≡ table 1024 (λ i. join (get_or a i 0) (adds N E P (tree (lines_view n bs) q) (i / 32) (i % 32)))
+  pub report_at_lem : (N : Net) (E : Estimate) (P : ℕ) (a : List ℕ) → table 1024 (λ i. join (get_or a i 0) (adds_by N E P (tree (lines_of t)) x (i / 32) (i % 32))) ≡ table 1024 (λ i. join (get_or a i 0) (adds N E P (tree (lines_of t) q) (i / 32) (i % 32)))
   report_at_lem N E P a = same_table 1024 _ _ 0 (λ i l. ap (join (get_or a i 0)) (adds_at N E P (i / 32) (i % 32)))
 
 -- an eval line: what it adds, then its body, then what follows it

@@ -18,7 +18,7 @@ use Rattle.klaim.specs.Net.{Net, Estimate}
 use Rattle.klaim.specs.Analysis.{reach}
 use Rattle.klaim.specs.Report.{sure, uses, eval_adds, adds, adds_nothing}
 use Rattle.tables.specs.declared.Action.{Action}
-use Rattle.tables.specs.View.{lines_view, Decoded, InForm}
+use Rattle.tables.specs.View.{Lines, lines_of, ActionAt, InForm}
 use Rattle.flow.proofs.Sites.{some_site}
 use Rattle.report.specs.declared.Evals.{Evals}
 use Rattle.report.specs.declared.Evals.TheVariants.{Nothing, Both, Next, Sends}
@@ -80,23 +80,23 @@ module _ (N : Net) (E : Estimate) where
             less_at N E m k b u l t q ∙ sym (adds_inside r.0 t r.2) ∙ nowhere_at _ a r.0 t r.1 q
 
   -- line q by its children
-  module _ (P : ℕ) {n : ℕ} {bs : List ℕ} {q : ℕ} (w : InForm n bs q) {r : Action} (d : Decoded bs q r) {p : Evals} (h : p ≡ evals_of r) where
-    nothing_at : {x : Evals} → p ≡ x → nowhere (adds_by N E P (tree (lines_view n bs)) x) ≡ adds_nothing N E P (tree (lines_view n bs) q)
-    nothing_at e = nowhere_same _ _ (adds_at w d h e N E P) ∙ sym (nothing_is P (tree (lines_view n bs) q))
+  module _ (P : ℕ) {t : Lines} {q : ℕ} (w : InForm t q) {r : Action} (d : ActionAt t q r) {p : Evals} (h : p ≡ evals_of r) where
+    nothing_at : {x : Evals} → p ≡ x → nowhere (adds_by N E P (tree (lines_of t)) x) ≡ adds_nothing N E P (tree (lines_of t) q)
+    nothing_at e = nowhere_same _ _ (adds_at w d h e N E P) ∙ sym (nothing_is P (tree (lines_of t) q))
 
-    pub nothing_nil : p ≡ Nothing → true ≡ adds_nothing N E P (tree (lines_view n bs) q)
+    pub nothing_nil : p ≡ Nothing → true ≡ adds_nothing N E P (tree (lines_of t) q)
     unfolding adds_by
     nothing_nil e = sym (nowhere_i (λ s t. 0) (λ s t x y. refl)) ∙ nothing_at e
 
-    pub nothing_both : {a b : ℕ} → p ≡ Both a b → (adds_nothing N E P (tree (lines_view n bs) a) & adds_nothing N E P (tree (lines_view n bs) b)) ≡ adds_nothing N E P (tree (lines_view n bs) q)
+    pub nothing_both : {a b : ℕ} → p ≡ Both a b → (adds_nothing N E P (tree (lines_of t) a) & adds_nothing N E P (tree (lines_of t) b)) ≡ adds_nothing N E P (tree (lines_of t) q)
     unfolding adds_by
     nothing_both e = ap₂ ◌&◌ (nothing_is P _) (nothing_is P _) ∙ sym (nowhere_join _ _) ∙ nothing_at e
 
-    pub nothing_next : {a : ℕ} → p ≡ Next a → adds_nothing N E P (tree (lines_view n bs) a) ≡ adds_nothing N E P (tree (lines_view n bs) q)
+    pub nothing_next : {a : ℕ} → p ≡ Next a → adds_nothing N E P (tree (lines_of t) a) ≡ adds_nothing N E P (tree (lines_of t) q)
     unfolding adds_by
     nothing_next e = nothing_is P _ ∙ nothing_at e
 
-    pub nothing_sends : {a k b : ℕ} {g : Loc} {m : ℕ} → p ≡ Sends a g b k → m ≡ reach E P g → (nowhere (eval_adds N E m k (tree (lines_view n bs) b)) & (adds_nothing N E m (tree (lines_view n bs) b) & adds_nothing N E P (tree (lines_view n bs) a))) ≡ adds_nothing N E P (tree (lines_view n bs) q)
+    pub nothing_sends : {a k b : ℕ} {g : Loc} {m : ℕ} → p ≡ Sends a g b k → m ≡ reach E P g → (nowhere (eval_adds N E m k (tree (lines_of t) b)) & (adds_nothing N E m (tree (lines_of t) b) & adds_nothing N E P (tree (lines_of t) a))) ≡ adds_nothing N E P (tree (lines_of t) q)
     unfolding adds_by
     nothing_sends e i = rw i (ap₂ ◌&◌ refl (ap₂ ◌&◌ (nothing_is _ _) (nothing_is P _) ∙ sym (nowhere_join _ _)) ∙ sym (nowhere_join _ _) ∙ nothing_at e)
 

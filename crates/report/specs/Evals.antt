@@ -11,9 +11,9 @@ unfoldable pub evals_of : Action → Evals
 evals_of Nil = Nothing
 evals_of (Par a b) = Both a b
 evals_of (Rep a) = Next a
-evals_of (Out a g n) = Next a
-evals_of (In a g n) = Next a
-evals_of (Read a g n) = Next a
+evals_of (Out a g fs) = Next a
+evals_of (In a g fs) = Next a
+evals_of (Read a g fs) = Next a
 evals_of (Eval a g b k) = Sends a g b k
 evals_of (Accept a k) = Next a
 

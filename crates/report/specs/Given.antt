@@ -3,20 +3,13 @@
 use Rattle.std.specs.Prelude.{◌≡◌, true, List, ℕ, ◌+◌, ◌*◌, ◌<◌, ◌≤◌, length, get_or}
 use Rattle.sets.specs.Bits.{mem, join, grant}
 use Rattle.klaim.specs.Process.{ordered}
-use Rattle.klaim.specs.Net.{Root}
-use Rattle.tables.specs.declared.Lines.{Lines}
-use Rattle.tables.specs.declared.Roots.{Roots}
-use Rattle.tables.specs.View.{lines_of, root_at}
-
-abbrev pub a_root : ℕ → ℕ → Root
-a_root s q = record { site = s; line = q }
+use Rattle.tables.specs.View.{Lines, Roots, lines_of, root_at}
 
 -- roots over lines: each at a site, on a line
 pub record Rooted (ls : Lines) (rs : Roots) : Type 0 where
-  pub few : rs.count ≤ 64
   pub in_order : ordered (lines_of ls) ≡ true
-  pub placed : (i : ℕ) → i < rs.count → (root_at rs.bytes i).site < 32
-  pub present : (i : ℕ) → i < rs.count → (root_at rs.bytes i).line < ls.count
+  pub placed : (i : ℕ) → i < rs.count → (root_at rs i).site < 32
+  pub present : (i : ℕ) → i < rs.count → (root_at rs i).line < ls.count
 
 -- a subject's row of the report with the rights added, if the subject is in the set; every other byte kept
 pub record RowAdded (set subject : ℕ) (rights old new : List ℕ) : Type 0 where

@@ -7,14 +7,14 @@ ghost use Rattle.sets.specs.Bits.{mem, join, grant, less as without};
 ghost use Rattle.klaim.specs.Process.{tree};
 ghost use Rattle.klaim.specs.Net.{home};
 ghost use Rattle.klaim.specs.Report.{sure, eval_adds, adds, adds_nothing, root_adds, hold_adds, report as report_of};
-ghost use Rattle.tables.specs.View.{lines_of, net_view, estimate_view, InForm};
+ghost use Rattle.tables.specs.View.{root_view, lines_of, net_view, estimate_view, InForm};
 ghost use Rattle.report.specs.Evals.{evals_of, nowhere};
-ghost use Rattle.report.specs.Given.{a_root, Rooted, RowAdded};
+ghost use Rattle.report.specs.Given.{Rooted, RowAdded};
 
 use flow::UseMap;
 use klaim::Loc;
 use std::array;
-use tables::{Action, Estimate, Lines, Net, REPORT};
+use tables::{Action, Estimate, Lines, Net, REPORT, Root};
 
 // What a has and b lacks.
 fn less(a: u8, b: u8) -> u8
@@ -49,20 +49,20 @@ fn is_empty(m: UseMap) -> bool
 }
 
 // The rights of a use map added to the report for one subject, where it is in the set.
-fn add_row(bytes: &mut [u8; 1024], set: u32, subject: u8, m: UseMap)
+fn add_row(bytes: &mut [u8; REPORT], set: u32, subject: u8, m: UseMap)
     requires { subject < 32 }
     ensures { RowAdded set subject m.rights bytes.old bytes.new }
 {
     if sets::has_site(set, subject) {
-        let at = UseMap::SITES * subject as usize;
+        let at = UseMap::SITES * usize::from(subject);
         for object in 0..UseMap::SITES {
-            bytes[at + object] = bytes[at + object] | m.rights[object];
+            bytes[at + object] |= m.rights[object];
         }
     }
 }
 
 // The rights of a use map added to the report, for each subject of the set.
-fn add_uses(bytes: &mut [u8; 1024], set: u32, m: UseMap)
+fn add_uses(bytes: &mut [u8; REPORT], set: u32, m: UseMap)
     ensures { bytes.new ≡ table 1024 (λ i. join (get_or bytes.old i 0) (grant (mem (i / 32) set) (get_or m.rights (i % 32) 0))) }
 {
     for subject in 0..32u8 {
@@ -71,7 +71,7 @@ fn add_uses(bytes: &mut [u8; 1024], set: u32, m: UseMap)
 }
 
 // The E rights of each site less its home policy.
-fn put_holds(bytes: &mut [u8; 1024], net: &Net, estimate: &Estimate)
+fn put_holds(bytes: &mut [u8; REPORT], net: &Net, estimate: &Estimate)
     ensures { bytes.new ≡ table 1024 (λ i. hold_adds (net_view net.now) (estimate_view estimate.now) (i / 32) (i % 32)) }
 {
     for i in 0..REPORT {
@@ -111,14 +111,14 @@ fn evals_of(action: Action) -> Evals
 
 // What the eval lines of line q add, those inside bodies too, `places` being its place set.
 fn add_evals(
-    bytes: &mut [u8; 1024],
+    bytes: &mut [u8; REPORT],
     net: &Net,
     estimate: &Estimate,
     lines: &Lines,
     places: u32,
     q: u8,
 )
-    requires { InForm lines.now.count lines.now.bytes q }
+    requires { InForm lines.now q }
     ensures { bytes.new ≡ table 1024 (λ i. join (get_or bytes.old i 0) (adds (net_view net.now) (estimate_view estimate.now) places (tree (lines_of lines.now) q) (i / 32) (i % 32))) }
 {
     match evals_of(lines.action(q)) {
@@ -141,36 +141,34 @@ fn add_evals(
 }
 
 // An L row's use map less the home policy of its site, added to the report.
-fn add_root(bytes: &mut [u8; 1024], net: &Net, estimate: &Estimate, site: u8, q: u8)
-    requires site_bound { site < 32 }
-    requires in_form { InForm net.now.lines.count net.now.lines.bytes q }
-    ensures { bytes.new ≡ table 1024 (λ i. join (get_or bytes.old i 0) (root_adds (net_view net.now) (estimate_view estimate.now) (a_root site q) (i / 32) (i % 32))) }
+fn add_root(bytes: &mut [u8; REPORT], net: &Net, estimate: &Estimate, root: Root)
+    requires site_bound { root.site < 32 }
+    requires in_form { InForm net.now.lines root.line }
+    ensures { bytes.new ≡ table 1024 (λ i. join (get_or bytes.old i 0) (root_adds (net_view net.now) (estimate_view estimate.now) (root_view root) (i / 32) (i % 32))) }
 {
-    let places = sets::single(site);
-    let uses = flow::use_map(net, estimate, &net.lines, places, q);
-    add_uses(bytes, places, less_home(uses, net, site));
+    let places = sets::single(root.site);
+    let uses = flow::use_map(net, estimate, &net.lines, places, root.line);
+    add_uses(bytes, places, less_home(uses, net, root.site));
 }
 
 // The report of a net and an estimate: byte 32 * subject + object.
-pub fn report(net: &Net, estimate: &Estimate) -> [u8; 1024]
+pub fn report(net: &Net, estimate: &Estimate) -> [u8; REPORT]
     requires { Rooted net.now.lines net.now.roots }
     ensures { result ≡ report_of (net_view net.now) (estimate_view estimate.now) }
 {
     let mut bytes = [0u8; 1024];
     put_holds(&mut bytes, net, estimate);
-    for i in 0..net.roots.count {
-        let site = net.roots.site(i);
-        let line = net.roots.line(i);
-        add_root(&mut bytes, net, estimate, site, line);
-        let places = sets::single(site);
-        add_evals(&mut bytes, net, estimate, &net.lines, places, line);
+    for root in net.roots.as_slice() {
+        add_root(&mut bytes, net, estimate, *root);
+        let places = sets::single(root.site);
+        add_evals(&mut bytes, net, estimate, &net.lines, places, root.line);
     }
     bytes
 }
 
 // Whether a body sent to the sites of a reach uses no right but those that sandbox k has at each of them.
 fn body_within(net: &Net, estimate: &Estimate, lines: &Lines, set: u32, body: u8, k: u8) -> bool
-    requires in_form { InForm lines.now.count lines.now.bytes body }
+    requires in_form { InForm lines.now body }
     requires k_bound { k < 32 }
     ensures { result ≡ nowhere (eval_adds (net_view net.now) (estimate_view estimate.now) set k (tree (lines_of lines.now) body)) }
 {
@@ -183,7 +181,7 @@ fn body_within(net: &Net, estimate: &Estimate, lines: &Lines, set: u32, body: u8
 
 // Whether each eval line of line q adds nothing to a report, `places` being its place set.
 pub fn adds_nothing(net: &Net, estimate: &Estimate, lines: &Lines, places: u32, q: u8) -> bool
-    requires { InForm lines.now.count lines.now.bytes q }
+    requires { InForm lines.now q }
     ensures { result ≡ adds_nothing (net_view net.now) (estimate_view estimate.now) places (tree (lines_of lines.now) q) }
 {
     match evals_of(lines.action(q)) {

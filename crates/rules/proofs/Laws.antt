@@ -3,10 +3,9 @@
 use mathlib.Core.Path.{◌≡◌, refl, sym, ap, ◌∙◌}
 use mathlib.Core.Bool.{Bool, true, false}
 use mathlib.Core.List.{List, [], ◌∷◌}
-use Prim.Native.Nat.{ℕ, suc, ◌+◌, ◌-◌, ◌*◌, ◌<◌, ◌≤◌}
-use native.Mathlib.Omega.{arith}
+use Prim.Native.Nat.{ℕ}
 use lib.ListN.{get_or}
-use Rattle.sets.specs.Lists.{◌&◌, imp, all, only, keep, ◌⧺◌, table_from, table, below}
+use Rattle.sets.specs.Lists.{◌&◌, imp, all, only, keep, ◌⧺◌, table, below}
 use Rattle.sets.specs.Bits.{mem, sites, within, joins}
 use Rattle.sets.proofs.Lists.{all_at, all_i, all_same, iff}
 use Rattle.sets.proofs.Tables.{get_or_table, in_below}

@@ -1,13 +1,13 @@
 -- A template and what its `!u` may become, as sets of sites: one set for the target and for each field.
 -- Assumes nothing.
-use Rattle.std.specs.Prelude.{◌≡◌, true, List, ℕ, ◌≤◌, length}
+use Rattle.std.specs.Prelude.{◌≡◌, true, List, ℕ}
 use Rattle.sets.specs.Lists.{all}
 use Rattle.klaim.specs.declared.Slot.{Slot}
 use Rattle.klaim.specs.declared.Slot.TheVariants.{Value, Bind, Wildcard}
 use Rattle.klaim.specs.Net.{Estimate, may}
 use Rattle.klaim.specs.Analysis.{reach}
 use Rattle.klaim.specs.Invariant.{all_below, distinct}
-use Rattle.tables.specs.View.{rows_view}
+use Rattle.tables.specs.View.{Tuples, tuples_of}
 use Rattle.matching.specs.Index.{Indexed}
 
 -- all sites
@@ -26,17 +26,14 @@ allowed E (Value x) = any_site
 allowed E (Bind u) = may E u.0
 allowed E Wildcard = any_site
 
--- a table of A rows as the reader leaves it: at most 256, of sites, no two alike
-pub record Sized (n : ℕ) (bs : List ℕ) : Type 0 where
-  pub few : n ≤ 256
-  pub long : length bs ≡ 1536
-  pub alone : distinct (rows_view n bs) ≡ true
-  pub low : all (all_below 32) (rows_view n bs) ≡ true
+-- rows as the reader leaves them: of sites, no two alike
+pub record Sized (rows : Tuples) : Type 0 where
+  pub alone : distinct (tuples_of rows) ≡ true
+  pub low : all (all_below 32) (tuples_of rows) ≡ true
 
 -- t is the index of the A rows of E
 pub record IndexOf (E : Estimate) (t : List ℕ) : Type 0 where
-  pub count : ℕ
-  pub bytes : List ℕ
-  pub rows : E.stand ≡ rows_view count bytes
-  pub sized : Sized count bytes
-  pub made : Indexed count bytes t
+  pub rows : Tuples
+  pub stand : E.stand ≡ tuples_of rows
+  pub sized : Sized rows
+  pub made : Indexed rows t

@@ -283,6 +283,7 @@ impl<'a, R: Read> Incoming<'a, R> {
     {
         let w = self.window;
         self.window = Window { row: w.next, ..w };
+        // No index to count by: a turn ends with a row, or with why there is none.
         loop {
             self.look_on();
             let Find::More = self.window.found else {
@@ -332,6 +333,7 @@ impl<'a, R: Read> Incoming<'a, R> {
         ensures dotted { Dotted self.old.window self.old.buf.now self.new.window self.new.buf.now }
         ensures long { length self.new.buf.now ≡ length self.old.buf.now }
     {
+        // No index to count by, as in `next_row`.
         loop {
             self.next_row();
             let Find::Row = self.window.found else {

@@ -1,19 +1,15 @@
--- The table of tuples behind a step, byte by byte.
+-- The table of tuples behind a step, entry by entry.
 -- Assumes nothing.
-use Rattle.std.specs.Prelude.{◌≡◌, List, ℕ, ◌+◌, ◌*◌, ◌<◌, ◌≤◌, length, get_or}
-use Rattle.tables.specs.View.{row_at}
+use Rattle.std.specs.Prelude.{◌≡◌, ℕ, ◌+◌, ◌<◌, ◌≤◌, get_or}
+use Rattle.tables.specs.Entries.{Removed}
+use Rattle.tables.specs.View.{Tuples, no_tuple}
 
--- the bytes of the table of tuples behind a step: there were n tuples and are k, and m is the one that may have been taken out
-pub record TableAfter (old : List ℕ) (n m k : ℕ) (new : List ℕ) : Type 0 where
-  -- as many: every byte is as it was
-  pub same : k ≡ n → new ≡ old
-  -- one more: its row says how many sites it has, and has zeros behind them; the rows above it, and what lies behind it, are as they
-  -- were
-  pub count : k ≡ n + 1 → get_or new (6 * n) 0 ≡ length (row_at new n)
-  pub zeros : k ≡ n + 1 → (j : ℕ) → 6 * n + length (row_at new n) < j → j < 6 * k → get_or new j 0 ≡ 0
-  pub above : k ≡ n + 1 → (j : ℕ) → j < 6 * n → get_or new j 0 ≡ get_or old j 0
-  pub behind : k ≡ n + 1 → (j : ℕ) → 6 * k ≤ j → get_or new j 0 ≡ get_or old j 0
-  -- tuple m taken out: the rows behind it have moved up; the rows above it, and what lies behind the last, are as they were
-  pub first : n ≡ k + 1 → (j : ℕ) → j < 6 * m → get_or new j 0 ≡ get_or old j 0
-  pub moved : n ≡ k + 1 → (j : ℕ) → 6 * m ≤ j → j < 6 * k → get_or new j 0 ≡ get_or old (j + 6) 0
-  pub last : n ≡ k + 1 → (j : ℕ) → 6 * k ≤ j → get_or new j 0 ≡ get_or old j 0
+-- the table behind a step: m is the tuple that may have been taken out
+pub record TableAfter (old : Tuples) (m : ℕ) (new : Tuples) : Type 0 where
+  -- as many: every entry is as it was
+  pub same : new.count ≡ old.count → new.items ≡ old.items
+  -- one more: the entries before it, and what lies behind it, are as they were
+  pub before : new.count ≡ old.count + 1 → (j : ℕ) → j < old.count → get_or new.items j no_tuple ≡ get_or old.items j no_tuple
+  pub behind : new.count ≡ old.count + 1 → (j : ℕ) → new.count ≤ j → get_or new.items j no_tuple ≡ get_or old.items j no_tuple
+  -- tuple m taken out: those behind it have moved up; those before it, and what lies behind the last, are as they were
+  pub taken : old.count ≡ new.count + 1 → Removed m old new

@@ -1,19 +1,34 @@
 -- What the engine's state stands for, and what it says of the call behind it.
 -- Assumes nothing.
-use Rattle.std.specs.Prelude.{take}
+use Rattle.std.specs.Prelude.{List, ℕ, get_or}
 use Rattle.std.specs.Prelude as Prelude
+use Rattle.sets.specs.Lists.{table}
 use Rattle.klaim.specs.Reader.{Answer}
 use Rattle.klaim.specs.Refusals.{answer_of}
 use Rattle.klaim.specs.State as Spec
 use Rattle.klaim.specs.Engine as Engine
 use Rattle.klaim.specs.declared.Refusal.{Refusal}
-use Rattle.tables.specs.declared.Tuples.{Tuples}
-use Rattle.tables.specs.View.{net_view, estimate_view, lines_of, tuples_of}
-use Rattle.threads.specs.declared.Threads.{Threads}
-use Rattle.threads.specs.View.{threads_of}
+use Rattle.tables.specs.declared.table.Table.{Table}
+use Rattle.tables.specs.View.{Tuples, net_view, estimate_view, lines_of, tuples_of}
+use Rattle.threads.specs.View.{Threads, threads_of}
+use Rattle.state.specs.declared.Arrival.{Arrival}
 use Rattle.state.specs.declared.Event.{Event}
 use Rattle.state.specs.declared.Event.TheVariants.{Brought, Withdrawn, Silent, Performed}
 use Rattle.state.specs.declared.State.{State}
+
+abbrev pub Arrivals : Type 0
+Arrivals = Table Arrival 256
+
+-- what stands where the arrivals end
+abbrev pub no_arrival : Arrival
+no_arrival = record { root = 0; sound = 0 }
+
+-- the root of arrival i, and the roots of all that stand in their table
+abbrev pub arrival_root : Arrivals → ℕ → ℕ
+arrival_root t i = (get_or t.items i no_arrival).root
+
+unfoldable pub arrivals_of : Arrivals → List ℕ
+arrivals_of t = table t.count (arrival_root t)
 
 -- the state of document 01; what was told is no part of it
 unfoldable pub state_view : State → Spec.State
@@ -21,7 +36,7 @@ state_view st = record {
   net = net_view st.net;
   estimate = estimate_view st.estimate;
   lines = lines_of st.lines;
-  arrivals = take st.arrivals.count st.arrivals.roots;
+  arrivals = arrivals_of st.arrivals;
   threads = threads_of st.threads;
   tuples = tuples_of st.tuples;
 }

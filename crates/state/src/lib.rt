@@ -1,8 +1,8 @@
-//! The engine's state, by value.
+//! The engine's state.
 #![tactic(auto)]
 
 use klaim::Refusal;
-use tables::{Estimate, Lines, Net, Tuples};
+use tables::{Estimate, LINES, Lines, Net, Table, Tuples};
 use threads::Threads;
 
 // What a call that was not refused did: brought an arrival with this root line, or withdrew it, made a silent step, or used a right
@@ -15,14 +15,15 @@ pub enum Event {
     Performed { site: u8, target: u8, right: u8 },
 }
 
-// The arrivals, `count` of them: the root line of each, and the set of sites at which it is sound (what the door tests without a
-// sandbox).
+// An arrival: its root line, and the set of sites at which it is sound (what the door tests without a sandbox).
 #[derive(Clone, Copy)]
-pub struct Arrivals {
-    pub roots: [u8; 256],
-    pub sound: [u32; 256],
-    pub count: usize,
+pub struct Arrival {
+    pub root: u8,
+    pub sound: u32,
 }
+
+// The arrivals.
+pub type Arrivals = Table<Arrival, LINES>;
 
 // The net, the estimate, the lines with those of the arrivals behind the net's, the arrivals, the tuples, the threads, and what the
 // call behind the state answered.

@@ -6,11 +6,11 @@ use Prim.Native.Nat.{ℕ, suc, ◌+◌, ◌<◌, ◌≤◌}
 use native.Mathlib.Omega.{arith}
 use native.Mathlib.Numerals.{add-one}
 use native.Mathlib.Decide.{ℕ_discrete, dec_lt}
-use lib.ListN.{length, get_or, set, length-set}
+use lib.ListN.{length, get_or, set, length-set, take}
 use lib.Seq.{get_or-set_same, get_or-set_other, ext_get_or}
 use Rattle.sets.specs.Lists.{splice, table}
 use Rattle.sets.proofs.Splice.{splice_long, splice_low, splice_high, splice_set}
-use Rattle.sets.proofs.Tables.{list_table, map_table, get_or_table, length_table, same_table, table_snoc}
+use Rattle.sets.proofs.Tables.{list_table, map_table, get_or_table, length_table, same_table, table_snoc, table_short}
 use Rattle.tables.specs.declared.table.Table.{Table}
 use Rattle.tables.specs.Entries.{entries, Removed}
 
@@ -22,6 +22,12 @@ module _ {A B : Type 0} {N : ℕ} (f : A → B) (d : A) where
   -- the same by the list of the entries
   pub viewed_map : (t : Table A N) → viewed t ≡ map f (entries t)
   viewed_map t = sym (ap (map f) (list_table d t.count t.items (omega (arith, t.few, t.long))) ∙ map_table f t.count (λ k. get_or t.items k d))
+
+  -- the first of them alone
+  pub truncated : (old new : Table A N) → new.items ≡ old.items → new.count ≤ old.count → viewed new ≡ take new.count (viewed old)
+  truncated old new e h =
+      ap (λ (xs : List A). table new.count (λ k. f (get_or xs k d))) e
+      ∙ sym (table_short old.count new.count (λ k. f (get_or old.items k d)) h)
 
   -- one more
   pub pushed : (old new : Table A N) (x : A) → old.count < N → new.items ≡ set old.items old.count x → new.count ≡ old.count + 1 → viewed new ≡ viewed old ++ (f x ∷ [])

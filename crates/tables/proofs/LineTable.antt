@@ -5,7 +5,8 @@ use mathlib.Core.Logic.{◌⊎◌, inl, inr}
 use mathlib.Core.Bool.{true, false}
 use Prim.Native.Nat.{ℕ, ◌<◌, ◌≤◌}
 use native.Mathlib.Omega.{arith}
-use lib.ListN.{length, take, get_or-eq_default}
+use lib.ListN.{length, get_or, take, get_or-eq_default}
+use Rattle.std.proofs.lemmas.List.{get_or_default}
 use Rattle.sets.specs.Lists.{Elem, first, later, All, table}
 use Rattle.sets.proofs.Tables.{get_or_table, length_table, table_short}
 use Rattle.klaim.specs.Fields.{items}
@@ -19,7 +20,8 @@ use Rattle.klaim.proofs.Process.{tree_node, child_greater, child_line}
 use Rattle.tables.specs.declared.Action.{Action}
 use Rattle.tables.specs.declared.Action.TheVariants.{Nil, Par, Rep, Out, In, Read, Eval, Accept}
 use Rattle.tables.specs.Low.{LowLoc, LowSlot, LowAction}
-use Rattle.tables.specs.View.{Lines, action_line, line_of, lines_of, ActionAt, InForm}
+use Rattle.tables.specs.declared.line.Line.{Line}
+use Rattle.tables.specs.View.{no_line, Lines, action_line, line_of, lines_of, ActionAt, InForm}
 
 pub lines_long : (t : Lines) → length (lines_of t) ≡ t.count
 unfolding lines_of
@@ -28,6 +30,11 @@ lines_long t = length_table t.count (line_of t)
 pub line_at_lem : (t : Lines) (q : ℕ) → q < t.count → line_at (lines_of t) q ≡ line_of t q
 unfolding lines_of
 line_at_lem t q h = get_or_table t.count (line_of t) q Process.Nil h
+
+-- what is read at place q
+pub read_at : (t : Lines) (q : ℕ) (x : Line) → q < 256 → action_line (get_or t.items q x).action ≡ line_of t q
+unfolding line_of
+read_at t q x h = ap (λ (l : Line). action_line l.action) (get_or_default t.items q x no_line (omega (arith, t.long)))
 
 -- the first r lines
 pub first_lines : (t : Lines) (r : ℕ) → r ≤ t.count → take r (lines_of t) ≡ table r (line_of t)

@@ -85,6 +85,7 @@ pub fn cut(s: &[u8], at: usize) -> CutRow<'_>
     let mut n = 1;
     let mut end = field_end(s, at);
     keep(&mut edges, 1, end + 1 - at);
+    // By hand: each turn goes on behind the comma at which the last one ended.
     while goes_on(s, end) {
         end = field_end(s, end + 1);
         n += 1;

@@ -1,113 +1,72 @@
-//! Tuples in their table, and a line's template held against one for a thread.
+//! A line's template held against a tuple for a thread, and the tuple that a thread makes.
 #![tactic(auto)]
 
-ghost use Rattle.std.specs.Prelude.{◌≡◌, true, ◌∷◌, [], map, suc, ◌-◌, ◌*◌, ◌<◌, ◌≤◌, eqb, length, take};
-ghost use Rattle.sets.specs.Lists.{splice};
+ghost use Rattle.std.specs.Prelude.{◌≡◌, ◌∷◌, map, eqb};
 ghost use Rattle.klaim.specs.Analysis.{slot_match};
 ghost use Rattle.klaim.specs.Engine.{value, bind_all, agrees as agrees_of};
-ghost use Rattle.tables.specs.View.{row_at, tuples_of, field_bytes, loc_of, slot_of, LowLoc, LowSlot};
+ghost use Rattle.klaim.specs.Fields.{items};
+ghost use Rattle.tables.specs.View.{tuple_view};
 ghost use Rattle.threads.specs.View.{thread_view, rebound};
 ghost use Rattle.tuples.specs.Slots.{bind_slot};
-ghost use Rattle.tuples.specs.Rows.{Padded, Moved};
 
-use klaim::{Loc, Slot};
-use tables::{Lines, TUPLE, Tuples};
+use klaim::{Fields, Loc, Slot};
+use tables::Tuple;
 use threads::Thread;
 
 // The thread with the variable of a slot, if it is a binder, bound to site v.
+#[tactic(auto, unfolding(crate::specs::Slots::bind_slot))]
 fn bind_slot(th: Thread, slot: Slot, v: u8) -> Thread
-    requires { LowSlot slot }
     ensures { thread_view result ≡ rebound (thread_view th) (bind_slot slot v (thread_view th).bindings) }
 {
     match slot {
-        Slot::Value(_) => th,
+        Slot::Value(_) | Slot::Wildcard => th,
         Slot::Bind(u) => th.bind(u, v),
-        Slot::Wildcard => th,
     }
 }
 
-// The thread with the fields of line q's template bound to those of tuple m, which has as many.
-pub fn bind_all(lines: &Lines, q: u8, count: u8, tuples: &Tuples, m: usize, th: Thread) -> Thread
-    requires { (m < 256) × (count ≤ 4) × (length (row_at tuples.now.bytes m) ≡ suc count) }
-    ensures { (g : Loc) → thread_view result ≡ rebound (thread_view th) (bind_all (Slot.Value g ∷ map slot_of (take count (field_bytes lines.now.bytes q))) (row_at tuples.now.bytes m) (thread_view th).bindings) }
+// The thread with the fields of a template bound to those of a tuple.
+pub fn bind_all(th: Thread, fields: &Fields<Slot>, tuple: &Tuple) -> Thread
+    ensures { (g : Loc) → thread_view result ≡ rebound (thread_view th) (bind_all (Slot.Value g ∷ items fields.now) (tuple_view tuple.now) (thread_view th).bindings) }
 {
-    let fields = lines.fields(q);
-    let at = TUPLE * m + 2;
     let mut r = th;
-    for j in 0..count as usize {
-        r = bind_slot(r, tables::slot_of(fields[j]), tuples.bytes[at + j]);
+    for (slot, v) in fields.as_slice().iter().zip(tuple.fields.as_slice()) {
+        r = bind_slot(r, *slot, *v);
     }
     r
 }
 
 // Whether a slot admits site v.
+#[tactic(auto, unfolding(klaim::specs::Analysis::slot_match))]
 fn slot_agrees(th: &Thread, slot: Slot, v: u8) -> bool
-    requires { LowSlot slot }
     ensures { result ≡ slot_match (λ x v. eqb v (value (thread_view th.now).site (thread_view th.now).bindings x)) slot v }
 {
     match slot {
         Slot::Value(x) => v == th.value(x),
-        Slot::Bind(_) => true,
-        Slot::Wildcard => true,
+        Slot::Bind(_) | Slot::Wildcard => true,
     }
 }
 
-// Whether tuple m stands at the target, has as many fields as line q's template, and agrees in every field that binds nothing.
-pub fn agrees(
-    lines: &Lines,
-    q: u8,
-    count: u8,
-    target: Loc,
-    tuples: &Tuples,
-    m: usize,
-    th: &Thread,
-) -> bool
-    requires { (m < 256) × (count ≤ 4) × LowLoc target }
-    ensures value { result ≡ agrees_of (thread_view th.now) target (map slot_of (take count (field_bytes lines.now.bytes q))) (row_at tuples.now.bytes m) }
-    ensures long { result ≡ true → length (row_at tuples.now.bytes m) ≡ suc count }
+// Whether a tuple stands at the target, has as many fields as a template, and agrees in every field that binds nothing.
+pub fn agrees(th: &Thread, target: Loc, fields: &Fields<Slot>, tuple: &Tuple) -> bool
+    ensures { result ≡ agrees_of (thread_view th.now) target (items fields.now) (tuple_view tuple.now) }
 {
-    let fields = lines.fields(q);
-    if matching::row_len(tuples, m) != count as usize + 1 {
+    let slots = fields.as_slice();
+    let sites = tuple.fields.as_slice();
+    if slots.len() != sites.len() || tuple.site != th.value(target) {
         return false;
     }
-    let at = TUPLE * m + 1;
-    if tuples.bytes[at] != th.value(target) {
-        return false;
-    }
-    for j in 0..count as usize {
-        if !slot_agrees(th, tables::slot_of(fields[j]), tuples.bytes[at + 1 + j]) {
-            return false;
-        }
-    }
-    true
+    slots
+        .iter()
+        .zip(sites)
+        .all(|(slot, v)| slot_agrees(th, *slot, *v))
 }
 
-// The tuple of an `out` on line q: how many sites, the target, the fields.
-pub fn out_row(lines: &Lines, q: u8, count: u8, target: Loc, th: &Thread) -> [u8; 6]
-    requires { (count ≤ 4) × LowLoc target }
-    ensures result_value { row_at result 0 ≡ map (value (thread_view th.now).site (thread_view th.now).bindings) (target ∷ map loc_of (take count (field_bytes lines.now.bytes q))) }
-    ensures padded { Padded result }
+// The tuple that an `out` of a thread makes: at its target, with what its fields stand for.
+pub fn made(th: &Thread, target: Loc, fields: &Fields<Loc>) -> Tuple
+    ensures { tuple_view result ≡ map (value (thread_view th.now).site (thread_view th.now).bindings) (target ∷ items fields.now) }
 {
-    let mut r = [0u8; TUPLE];
-    r[0] = count + 1;
-    r[1] = th.value(target);
-    let fields = lines.fields(q);
-    for j in 0..count as usize {
-        r[j + 2] = th.value(tables::loc_of(fields[j]));
+    Tuple {
+        site: th.value(target),
+        fields: fields.map(|x| th.value(x)),
     }
-    r
-}
-
-// Tuple m taken out of a table: those behind it move up.
-pub fn remove(tuples: &mut Tuples, m: usize)
-    requires { (m < tuples.old.count) × (tuples.old.count ≤ 256) }
-    ensures list { tuples_of tuples.new ≡ splice m [] (tuples_of tuples.old) }
-    ensures moved { Moved (6 * m) tuples.old.bytes tuples.new.bytes (6 * (tuples.old.count - 1)) }
-    ensures count { tuples.new.count ≡ tuples.old.count - 1 }
-{
-    let last = tuples.count - 1;
-    for i in TUPLE * m..TUPLE * last {
-        tuples.bytes[i] = tuples.bytes[i + TUPLE];
-    }
-    tuples.count = last;
 }

@@ -1,7 +1,7 @@
 //! The call that sends the newest arrival away.
 #![tactic(auto)]
 
-ghost use Rattle.std.specs.Prelude.{◌≡◌, ◌≤◌, leb};
+ghost use Rattle.std.specs.Prelude.{◌≡◌, leb};
 ghost use Rattle.sets.specs.Lists.{any};
 ghost use Rattle.threads.specs.View.{threads_of};
 ghost use Rattle.state.specs.Fits.{Fits};
@@ -13,10 +13,9 @@ use threads::Threads;
 
 // Whether a thread stands on line r or on one behind it.
 fn occupied(threads: &Threads, r: u8) -> bool
-    requires { threads.now.count ≤ 64 }
     ensures { result ≡ any (λ th. leb r th.line) (threads_of threads.now) }
 {
-    threads.items[..threads.count].iter().any(|th| r <= th.line)
+    threads.as_slice().iter().any(|th| r <= th.line)
 }
 
 // The newest arrival withdrawn: the answer is its root's line number, or a refusal. Its lines are those from the root on. Only the
@@ -30,12 +29,12 @@ pub fn withdraw(state: &mut State)
         return;
     }
     let left = state.arrivals.count - 1;
-    let root = state.arrivals.roots[left];
+    let root = state.arrivals.items[left].root;
     if occupied(&state.threads, root) {
         state.told = Err(Refusal::from(Reason::Occupied));
         return;
     }
-    state.lines.count = usize::from(root);
-    state.arrivals.count = left;
+    state.lines.truncate(usize::from(root));
+    state.arrivals.truncate(left);
     state.told = Ok(Event::Withdrawn(root));
 }

@@ -51,3 +51,14 @@ module _ (m i : ℕ) where
       go : Dec (i < length (letters m)) → i < length (letters m)
       go (yes l) = l
       go (no l) = absurd (e (at_dot (letters m) i (omega arith) k))
+
+-- place i of the entry s of the table, the entry of a byte m
+module _ {t : List (List ℕ)} (is : t ≡ letter_table) {s : ℕ} (m i : ℕ) (e : s ≡ m % set_count) where
+  pub entry_read : get_or (get_or t s []) i 0 ≡ get_or (padded (letters m)) i 0
+  entry_read = ap (λ (l : List (List ℕ)). get_or (get_or l s []) i 0) is ∙ ap (λ (k : ℕ). get_or (get_or letter_table k []) i 0) e ∙ ap (λ (l : List ℕ). get_or l i 0) (entry_right m)
+
+  pub read_ends : get_or (get_or t s []) i 0 ≡ dot → length (letters m) ≤ i
+  read_ends q = dot_ends m i (sym entry_read ∙ q)
+
+  pub read_goes_on : i < right_count → (get_or (get_or t s []) i 0 ≡ dot → ⊥) → i < length (letters m)
+  read_goes_on k q = letter_goes_on m i k (λ z. q (entry_read ∙ z))

@@ -66,7 +66,7 @@ pub fn put_site(out: &mut [u8], at: usize, site: u8) -> usize
     ensures { Wrote out.old out.new at (site_name site) result }
 {
     let next = put_byte(out, at, b's');
-    put_number(out, next, site as u32)
+    put_number(out, next, u32::from(site))
 }
 
 // What stands in an entry of the table behind the last letter.
@@ -95,7 +95,7 @@ pub fn put_letters_from(out: &mut [u8], at: usize, table: &LetterTable, rights: 
     requires { (table.now ≡ letter_table) × (at + length (letters rights) ≤ length out.old) }
     ensures { Wrote out.old out.new at (letters rights) result }
 {
-    let set = rights as usize % SETS;
+    let set = usize::from(rights) % SETS;
     for i in 0..RIGHTS {
         let letter = table[set][i];
         if letter == DOT {

@@ -1,6 +1,6 @@
-use mathlib.Core.Path.{sym}
+use mathlib.Core.Path.{◌∙◌, sym}
 use Rattle.counts.proofs.Size.{size_bits}
 use Rattle.counts.proofs.size_of.Goals as goal
 
 pub returns : goal.returns
-returns c = sym (size_bits c.args.rights)
+returns c = c.from.ensures ∙ sym (size_bits c.args.rights)

@@ -1,7 +1,4 @@
 use mathlib.Core.Path.{sym, ap, ◌∙◌}
-use mathlib.Core.Option.{Option}
-use Rattle.std.specs.Prelude.{Option as Told}
-use Prim.Native.Nat.{ℕ}
 use Rattle.sets.specs.Options.{option_of}
 use Rattle.tables.specs.View.{lines_of, net_view, estimate_view}
 use Rattle.door.proofs.Laws.{sound_broken, sound_adds}

@@ -1,7 +1,7 @@
 use mathlib.Core.Path.{refl, ◌∙◌}
 use Rattle.text.specs.Fields.{loc, slot}
 use Rattle.klaim.specs.Fields.{items}
-use Rattle.lines.specs.Lines.{line_view, get_of}
+use Rattle.lines.specs.Lines.{line_view, acts_of}
 use Rattle.tables.specs.View.{action_line}
 use Rattle.entries.specs.Entries.{cut_loc, cut_slot}
 use Rattle.entries.proofs.Names.{line_low, line_same, twice}
@@ -22,13 +22,13 @@ returns-in-Out c =
     rw (← line_same _ (line_low c.args.process.now c.requires), c.in-Out.is, c.byte-in-Out.ensures, c.loc.ensures, m) refl
 
 pub returns-in-In : goal.returns-in-In
-unfolding line_view action_line get_of
+unfolding line_view action_line acts_of
 returns-in-In c =
     let m = c.map-in-In.ensures (λ x. cut_slot (slot x)) (λ x y p. p) ∙ twice slot cut_slot (items c.in-In.get.fields) in
     rw (← line_same _ (line_low c.args.process.now c.requires), c.in-In.is, c.byte-in-In.ensures, c.loc-in-In.ensures, m) refl
 
 pub returns-in-Read : goal.returns-in-Read
-unfolding line_view action_line get_of
+unfolding line_view action_line acts_of
 returns-in-Read c =
     let m = c.map-in-Read.ensures (λ x. cut_slot (slot x)) (λ x y p. p) ∙ twice slot cut_slot (items c.in-Read.get.fields) in
     rw (← line_same _ (line_low c.args.process.now c.requires), c.in-Read.is, c.byte-in-Read.ensures, c.loc-in-Read.ensures, m) refl

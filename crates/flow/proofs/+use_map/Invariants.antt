@@ -1,7 +1,6 @@
 -- `use_map` meets its contract: at each action the use map is what the definition says of the line's process. 256 less the line number falls.
 -- Assumes nothing.
 use Prim.Native.Nat.{◌-◌}
-use Prim.Native.Nat.{◌-◌}
 use Rattle.flow.proofs.+use_map.Given as goal
 
 abbrev pub decreases-use_map : goal.decreases-use_map

@@ -1,5 +1,6 @@
-use mathlib.Core.Path.{refl}
-use Rattle.klaim.specs.Rows.{row_pair, given, ◌>>=◌}
+use mathlib.Core.Path.{◌≡◌, refl}
+use mathlib.Core.Option.{none}
+use Rattle.klaim.specs.Rows.{split, comma, at, rights_field, row_pair, given, ◌>>=◌}
 use Rattle.lines.proofs.LineKinds.{sized_yes, sized_no}
 use Rattle.forms.specs.Forms.{pair_data}
 use Rattle.forms.proofs.read_pair.Goals as goal
@@ -18,7 +19,9 @@ returns-in_err-to c = λ g. rw (c.from_residual-in_err-to.ensures, sized_yes c.c
 
 pub returns-in_err-rights : goal.returns-in_err-rights
 unfolding row_pair pair_data given ◌>>=◌
-returns-in_err-rights c = λ g. rw (c.from_residual-in_err-rights.ensures, sized_yes c.count.ensures c.if-count-ne4.false, ← c.in_ok-from.ensures, ← c.in_ok-to.ensures, ← c.in_err-rights.ensures.result_value) refl
+returns-in_err-rights c =
+    let said : none ≡ rights_field (at (split comma c.args.row.now.bytes.now) 3) = c.in_err-rights.ensures.result_value in
+    λ g. rw (c.from_residual-in_err-rights.ensures, sized_yes c.count.ensures c.if-count-ne4.false, ← c.in_ok-from.ensures, ← c.in_ok-to.ensures, ← said) refl
 
 pub returns : goal.returns
 unfolding row_pair pair_data given ◌>>=◌

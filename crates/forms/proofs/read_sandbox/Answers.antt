@@ -1,5 +1,6 @@
-use mathlib.Core.Path.{refl}
-use Rattle.klaim.specs.Rows.{row_d, given, ◌>>=◌}
+use mathlib.Core.Path.{◌≡◌, refl}
+use mathlib.Core.Option.{none}
+use Rattle.klaim.specs.Rows.{split, comma, at, box_rights_field, row_d, given, ◌>>=◌}
 use Rattle.lines.proofs.LineKinds.{sized_yes, sized_no}
 use Rattle.forms.specs.Forms.{box_data}
 use Rattle.forms.proofs.read_sandbox.Goals as goal
@@ -18,7 +19,9 @@ returns-in_err-toward c = rw (c.from_residual-in_err-toward.ensures, sized_yes c
 
 pub returns-in_err-rights : goal.returns-in_err-rights
 unfolding row_d box_data given ◌>>=◌
-returns-in_err-rights c = rw (c.from_residual-in_err-rights.ensures, sized_yes c.count.ensures c.if-count-ne4.false, ← c.in_ok-number.ensures, ← c.in_ok-toward.ensures, ← c.in_err-rights.ensures.result_value) refl
+returns-in_err-rights c =
+    let said : none ≡ box_rights_field (at (split comma c.args.row.now.bytes.now) 3) = c.in_err-rights.ensures.result_value in
+    rw (c.from_residual-in_err-rights.ensures, sized_yes c.count.ensures c.if-count-ne4.false, ← c.in_ok-number.ensures, ← c.in_ok-toward.ensures, ← said) refl
 
 pub returns : goal.returns
 unfolding row_d box_data given ◌>>=◌

@@ -3,7 +3,7 @@ use mathlib.Core.Logic.{⊎_elim}
 use Rattle.sets.specs.Lists.{all}
 use Rattle.sets.proofs.Lists.{and_true}
 use Rattle.klaim.specs.Process.{children}
-use Rattle.lines.specs.Lines.{line_view, get_of}
+use Rattle.lines.specs.Lines.{line_view, acts_of}
 use borrow.Author.Tests.{lt-ltb, le-ltb}
 use Rattle.judge.proofs.Tests.{both_yes, both_no}
 use Rattle.judge.proofs.low_children.Goals as goal
@@ -33,5 +33,5 @@ unfolding all children line_view
 returns-in-Rep c = ⊎_elim (λ e. rw e (sym (and_true _))) (⊎_elim (λ e. rw e.2 (sym (and_true _))) (λ e. rw e.1 (sym (and_true _)))) c.in-Rep.is
 
 pub returns-in-In : goal.returns-in-In
-unfolding all children line_view get_of
+unfolding all children line_view acts_of
 returns-in-In c = ⊎_elim (λ e. rw e (sym (and_true _))) (λ e. rw e (sym (and_true _))) c.in-In.is

@@ -8,7 +8,7 @@ use Rattle.klaim.specs.Process.{slots_of, bound_in}
 use Rattle.text.specs.declared.Target.{Target}
 use Rattle.text.specs.Fields.{loc, slot}
 use Rattle.klaim.specs.Fields.{items}
-use Rattle.lines.specs.Lines.{line_view, get_of}
+use Rattle.lines.specs.Lines.{line_view, acts_of}
 use Rattle.judge.proofs.Tests.{both_yes, both_no}
 use Rattle.judge.proofs.Lines.{no_slots, out_slots, get_slots, sites_behind}
 use Rattle.judge.proofs.low_line.Goals as goal
@@ -22,7 +22,7 @@ unfolding bound_in
 returns-else-low_site c = rw (c.in-Out.is, out_slots c.in-Out.next c.in-Out.target c.in-Out.fields, sites_behind (λ s. ltb s c.args.n) (λ (t : Target). Value (loc t)) c.in-Out.target (items c.in-Out.fields)) (both_no _ c.if-low_site.false c.low_site.ensures)
 
 pub returns-in-Eval : goal.returns-in-Eval
-unfolding line_view get_of slots_of concat all
+unfolding line_view acts_of slots_of concat all
 returns-in-Eval c = rw (c.in-Eval.is, sites_behind (λ s. ltb s c.args.n) (slot) c.in-Eval.target ([])) (c.low_site-in-Eval.ensures ∙ sym (and_true _))
 
 pub returns-in_default : goal.returns-in_default

@@ -9,7 +9,7 @@ use Rattle.klaim.specs.Process.{slots_of, used_in, bound_in}
 use Rattle.text.specs.declared.Target.{Target}
 use Rattle.text.specs.Fields.{loc, slot}
 use Rattle.klaim.specs.Fields.{items}
-use Rattle.lines.specs.Lines.{line_view, get_of}
+use Rattle.lines.specs.Lines.{line_view, acts_of}
 use Rattle.judge.proofs.Tests.{both_yes, both_no}
 use Rattle.judge.proofs.Lines.{no_slots, out_slots, get_slots, variables_behind}
 use Rattle.judge.proofs.low_variables.Goals as goal
@@ -23,7 +23,7 @@ unfolding bound_in
 returns-else-low_variable c = rw (c.in-Out.is, out_slots c.in-Out.next c.in-Out.target c.in-Out.fields, variables_behind (λ u. ltb u var_limit) (λ (t : Target). Value (loc t)) c.in-Out.target (items c.in-Out.fields) (λ (t : Target). used_in (Value (loc t)) ⧺ []) (λ t. refl)) (both_no _ c.if-low_variable.false c.low_variable.ensures)
 
 pub returns-in-Eval : goal.returns-in-Eval
-unfolding line_view get_of slots_of concat all
+unfolding line_view acts_of slots_of concat all
 returns-in-Eval c = rw (c.in-Eval.is, variables_behind (λ u. ltb u var_limit) (slot) c.in-Eval.target ([]) (λ f. used_in (slot f) ⧺ bound_in (slot f)) (λ f. refl)) (c.low_variable-in-Eval.ensures ∙ sym (and_true _))
 
 pub returns-in_default : goal.returns-in_default

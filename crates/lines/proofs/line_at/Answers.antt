@@ -1,7 +1,8 @@
 use mathlib.Core.Path.{sym, ◌∙◌}
+use Rattle.klaim.specs.Process.{In, Read}
 use Rattle.klaim.specs.Rows.{split, comma}
 use Rattle.lines.specs.Lines.{line_view}
-use Rattle.lines.proofs.LineKinds.{word_nil, word_par, word_rep, word_out, word_in, word_read, word_eval, word_accept, word_none}
+use Rattle.lines.proofs.LineKinds.{get_at, word_nil, word_par, word_rep, word_out, word_in, word_read, word_eval, word_accept, word_none}
 use Rattle.lines.proofs.line_at.Goals as goal
 
 pub returns-then-same : goal.returns-then-same
@@ -16,19 +17,19 @@ returns-then-same-3 c = c.read_rep.ensures ∙ sym (word_rep (split comma c.args
 pub returns-then-same-4 : goal.returns-then-same-4
 returns-then-same-4 c = c.read_out.ensures ∙ sym (word_out (split comma c.args.row.now.bytes.now) c.field-word.result.now c.field-word.ensures c.if-same-4.ensures)
 
-pub returns-in_err-read_get : goal.returns-in_err-read_get
-returns-in_err-read_get c = rw (c.from_residual.ensures) (c.in_err-read_get.ensures.input ∙ sym (word_in (split comma c.args.row.now.bytes.now) c.field-word.result.now c.field-word.ensures c.if-same-5.ensures))
+pub returns-in_err-read_acts : goal.returns-in_err-read_acts
+returns-in_err-read_acts c = rw (c.from_residual.ensures) (c.in_err-read_acts.ensures In ∙ sym (get_at (split comma c.args.row.now.bytes.now) In) ∙ sym (word_in (split comma c.args.row.now.bytes.now) c.field-word.result.now c.field-word.ensures c.if-same-5.ensures))
 
 pub returns-then-same-5 : goal.returns-then-same-5
 unfolding line_view
-returns-then-same-5 c = c.in_ok-read_get.ensures.input ∙ sym (word_in (split comma c.args.row.now.bytes.now) c.field-word.result.now c.field-word.ensures c.if-same-5.ensures)
+returns-then-same-5 c = c.in_ok-read_acts.ensures In ∙ sym (get_at (split comma c.args.row.now.bytes.now) In) ∙ sym (word_in (split comma c.args.row.now.bytes.now) c.field-word.result.now c.field-word.ensures c.if-same-5.ensures)
 
-pub returns-in_err-read_get-2 : goal.returns-in_err-read_get-2
-returns-in_err-read_get-2 c = rw (c.from_residual-in_err-read_get-2.ensures) (c.in_err-read_get-2.ensures.read ∙ sym (word_read (split comma c.args.row.now.bytes.now) c.field-word.result.now c.field-word.ensures c.if-same-6.ensures))
+pub returns-in_err-read_acts-2 : goal.returns-in_err-read_acts-2
+returns-in_err-read_acts-2 c = rw (c.from_residual-in_err-read_acts-2.ensures) (c.in_err-read_acts-2.ensures Read ∙ sym (get_at (split comma c.args.row.now.bytes.now) Read) ∙ sym (word_read (split comma c.args.row.now.bytes.now) c.field-word.result.now c.field-word.ensures c.if-same-6.ensures))
 
 pub returns-then-same-6 : goal.returns-then-same-6
 unfolding line_view
-returns-then-same-6 c = c.in_ok-read_get-2.ensures.read ∙ sym (word_read (split comma c.args.row.now.bytes.now) c.field-word.result.now c.field-word.ensures c.if-same-6.ensures)
+returns-then-same-6 c = c.in_ok-read_acts-2.ensures Read ∙ sym (get_at (split comma c.args.row.now.bytes.now) Read) ∙ sym (word_read (split comma c.args.row.now.bytes.now) c.field-word.result.now c.field-word.ensures c.if-same-6.ensures)
 
 pub returns-then-same-7 : goal.returns-then-same-7
 returns-then-same-7 c = c.read_eval.ensures ∙ sym (word_eval (split comma c.args.row.now.bytes.now) c.field-word.result.now c.field-word.ensures c.if-same-7.ensures)

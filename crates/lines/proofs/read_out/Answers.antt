@@ -1,21 +1,17 @@
-use mathlib.Core.Path.{refl}
-use Rattle.klaim.specs.Rows.{split, comma, given, ◌>>=◌}
-use Rattle.lines.specs.Lines.{line_view}
+use mathlib.Core.Path.{◌≡◌, sym, ◌∙◌}
+use mathlib.Core.Option.{none}
+use Rattle.klaim.specs.Process.{Out}
+use Rattle.klaim.specs.Rows.{split, comma, loc_field}
+use Rattle.lines.specs.Lines.{acts_of, acts_form, line_view}
 use Rattle.lines.proofs.LineKinds.{out_at}
 use Rattle.lines.proofs.read_out.Goals as goal
 
-pub returns-in_err-next : goal.returns-in_err-next
-unfolding given ◌>>=◌ line_view
-returns-in_err-next c = rw (c.from_residual.ensures, out_at (split comma c.args.row.now.bytes.now), ← c.in_err-next.ensures) refl
-
-pub returns-in_err-target : goal.returns-in_err-target
-unfolding given ◌>>=◌ line_view
-returns-in_err-target c = rw (c.from_residual-in_err-target.ensures, out_at (split comma c.args.row.now.bytes.now), ← c.in_ok-next.ensures, ← c.in_err-target.ensures) refl
-
-pub returns-in_err-fields : goal.returns-in_err-fields
-unfolding given ◌>>=◌ line_view
-returns-in_err-fields c = rw (c.from_residual-in_err-fields.ensures, out_at (split comma c.args.row.now.bytes.now), ← c.in_ok-next.ensures, ← c.in_ok-target.ensures, ← c.in_err-fields.ensures) refl
+pub returns-in_err-acts : goal.returns-in_err-acts
+returns-in_err-acts c =
+    let fs = split comma c.args.row.now.bytes.now in
+    let said : none ≡ acts_form loc_field Out fs = c.in_err-acts.ensures Out in
+    rw c.from_residual.ensures (said ∙ sym (out_at fs))
 
 pub returns : goal.returns
-unfolding given ◌>>=◌ line_view
-returns c = rw (out_at (split comma c.args.row.now.bytes.now), ← c.in_ok-next.ensures, ← c.in_ok-target.ensures, ← c.in_ok-fields.ensures) refl
+unfolding acts_of line_view
+returns c = c.in_ok-acts.ensures Out ∙ sym (out_at (split comma c.args.row.now.bytes.now))

@@ -3,6 +3,7 @@ use mathlib.Core.Path.{ap₂, ◌∙◌}
 use Prim.Native.Nat.{◌<◌}
 use native.Mathlib.Omega.{arith}
 use Rattle.sets.specs.Lists.{either}
+use Rattle.tables.specs.View.{row_at}
 use Rattle.matching.specs.Index.{in_column}
 use Rattle.matching.proofs.Index.{no_rows, turn_none, turn, turn_end, next_low, rest_less, rest_within}
 use Rattle.matching.proofs.rows_in.Goals as goal
@@ -10,7 +11,7 @@ use Rattle.matching.proofs.rows_in.Goals as goal
 pub loop-rest-init : goal.loop-rest-init
 loop-rest-init c =
     let low : c.args.set < 4294967296 = search rules in
-    (low, λ u t. t, λ n bs I i h. no_rows i ∙ turn_none n (in_column bs c.args.c i) i c.args.set)
+    (low, λ u t. t, λ rows I i h. no_rows i ∙ turn_none rows.count (in_column (row_at rows i) c.args.c) i c.args.set)
 
 pub overflow_cast-v : goal.overflow_cast-v
 overflow_cast-v c = let low = next_low c.args.set c.loop-rest.rest c.loop-rest-test.true c.loop-rest.invariant.0 c.loop-rest.invariant.1 in search rules
@@ -30,13 +31,13 @@ loop-rest-preserved c =
     let less = rest_less c.args.set at.rest some at.invariant.0 at.invariant.1 in (
       omega (arith, less, at.invariant.0),
       rest_within c.args.set at.rest some at.invariant.0 at.invariant.1,
-      λ n bs I i h.
+      λ rows I i h.
           c.in_either-r.ensures i h
-          ∙ ap₂ either (at.invariant.2 n bs I i h) (c.rows_with.ensures i h ∙ I c.args.c _ i c.requires (next_low c.args.set c.loop-rest.rest c.loop-rest-test.true c.loop-rest.invariant.0 c.loop-rest.invariant.1) h)
-          ∙ turn c.args.set at.rest some at.invariant.0 at.invariant.1 n (in_column bs c.args.c i) i,
+          ∙ ap₂ either (at.invariant.2 rows I i h) (c.rows_with.ensures i h ∙ I c.args.c _ i c.requires (next_low c.args.set c.loop-rest.rest c.loop-rest-test.true c.loop-rest.invariant.0 c.loop-rest.invariant.1) h)
+          ∙ turn c.args.set at.rest some at.invariant.0 at.invariant.1 rows.count (in_column (row_at rows i) c.args.c) i,
     )
 
 pub returns : goal.returns
 returns c =
     let at = c.loop-rest in
-    λ n bs I i h. at.invariant.2 n bs I i h ∙ turn_end c.args.set at.rest c.loop-rest-test.false n (in_column bs c.args.c i) i
+    λ rows I i h. at.invariant.2 rows I i h ∙ turn_end c.args.set at.rest c.loop-rest-test.false rows.count (in_column (row_at rows i) c.args.c) i

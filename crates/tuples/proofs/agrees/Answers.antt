@@ -1,70 +1,37 @@
-use mathlib.Core.Path.{◌≡◌, refl, sym, ap, subst, ◌∙◌}
-use mathlib.Core.Bool.{false≢true}
-use mathlib.Core.List.{List}
-use borrow.Author.Rules.{rules}
-use Prim.Native.Nat.{ℕ, suc, ◌≤◌, ◌+◌, ◌*◌}
-use native.Mathlib.Omega.{arith}
-use lib.ListN.{length, get_or}
-use Rattle.tables.specs.View.{row_at, slot_of, field_bytes}
+use mathlib.Core.Path.{◌≡◌, sym, ◌∙◌}
+use lib.ListN.{length}
+use Rattle.std.proofs.Common.{rules, tests}
+use Rattle.std.proofs.lemmas.Iterator.{YieldsList-from_slice, YieldsList-from_zip}
+use Rattle.std.proofs.lemmas.Iterator.Consumers.{YieldsList-at}
+use Rattle.std.proofs.lemmas.Iterator.Search.{all_from_yields_List}
+use Rattle.klaim.specs.Analysis.{slot_match}
+use Rattle.klaim.specs.Fields.{items}
 use Rattle.threads.specs.View.{thread_view}
-use Rattle.tuples.proofs.Laws.{Slots, Same, slots_long, agree_other, agree_far, agree_here, match_yes, match_no, match_end}
+use Rattle.tuples.proofs.Laws.{Same, pairs_match, agree_other, agree_far, agree_here}
+use Rattle.tuples.proofs.agrees.Goals.{then-slots-sites-via-then-slots-sites, then-slots-sites-via-else-slots-sites+then-tuple-value}
 use Rattle.tuples.proofs.agrees.Goals as goal
 
-pub returns-then-row_len-count : goal.returns-then-row_len-count
-returns-then-row_len-count c =
-    let ar = c.args in
-    let fs = field_bytes ar.lines.now.bytes ar.q in
-    let four : length fs ≡ 4 = subst (λ (l : List ℕ). length l ≡ 4) c.fields-fields.ensures (search rules) in
-    record {
-      value = agree_other (thread_view ar.th.now) ar.target (Slots ar.lines.now.bytes ar.q ar.count) (row_at ar.tuples.now.bytes ar.m) (λ e. omega (arith, c.if-row_len-count.true, c.row_len.ensures.value, slots_long ar.lines.now.bytes ar.q ar.count four c.requires.1));
-      long = λ t. absurd (false≢true t);
-    }
-
-pub returns-then-tuples-at : goal.returns-then-tuples-at
-returns-then-tuples-at c =
-    let ar = c.args in
-    let fs = field_bytes ar.lines.now.bytes ar.q in
-    let four : length fs ≡ 4 = subst (λ (l : List ℕ). length l ≡ 4) c.fields-fields.ensures (search rules) in
-    let long : length ar.tuples.now.bytes ≡ 1536 = search rules in
-    record {
-      value = agree_far (record { low = c.requires.0; few = c.requires.1; four = four; long = long; same_long = (sym c.row_len.ensures.value ∙ omega arith) }) (thread_view ar.th.now) ar.target (λ e. c.if-tuples-at.true (e ∙ sym c.value.ensures));
-      long = λ t. absurd (false≢true t);
-    }
-
-pub loop-j-init : goal.loop-j-init
-loop-j-init c =
-    let ar = c.args in
-    let fs = field_bytes ar.lines.now.bytes ar.q in
-    let four : length fs ≡ 4 = subst (λ (l : List ℕ). length l ≡ 4) c.fields-fields.ensures (search rules) in
-    let long : length ar.tuples.now.bytes ≡ 1536 = search rules in
-    (record { low = c.requires.0; few = c.requires.1; four = four; long = long; same_long = (sym c.row_len.ensures.value ∙ omega arith) }, refl)
-
-pub loop-j-preserved : goal.loop-j-preserved
-loop-j-preserved c =
-    let at = c.loop-j in
-    let ar = c.args in
-    let i : suc at.j ≡ at.j + 1 = omega arith in
-    let p : 6 * ar.m + 1 + suc at.j ≡ 6 * ar.m + 1 + 1 + at.j = omega arith in
-    (at.invariant.0, at.invariant.1 ∙ match_yes at.invariant.0 (Same (thread_view ar.th.now)) at.j (at.j + 1) (6 * ar.m + 1 + 1 + at.j) (omega arith) i p (c.slot_of.ensures.0 ∙ ap (λ (l : List ℕ). slot_of (get_or l at.j 0)) c.fields-fields.ensures) (sym c.slot_agrees.ensures ∙ c.if-not-slot_agrees.false))
-
-pub returns-then-not-slot_agrees : goal.returns-then-not-slot_agrees
-returns-then-not-slot_agrees c =
-    let at = c.loop-j in
-    let ar = c.args in
-    let i : suc at.j ≡ at.j + 1 = omega arith in
-    let p : 6 * ar.m + 1 + suc at.j ≡ 6 * ar.m + 1 + 1 + at.j = omega arith in
-    record {
-      value = sym (at.invariant.1 ∙ match_no at.invariant.0 (Same (thread_view ar.th.now)) at.j (at.j + 1) (6 * ar.m + 1 + 1 + at.j) (omega arith) i p (c.slot_of.ensures.0 ∙ ap (λ (l : List ℕ). slot_of (get_or l at.j 0)) c.fields-fields.ensures) (sym c.slot_agrees.ensures ∙ c.if-not-slot_agrees.true))
-          ∙ agree_here at.invariant.0 (thread_view ar.th.now) ar.target (c.if-tuples-at.false ∙ c.value.ensures);
-      long = λ t. absurd (false≢true t);
-    }
+pub returns-then-slots-sites : goal.returns-then-slots-sites
+returns-then-slots-sites c =
+    let th = thread_view c.args.th.now in
+    let ss = items c.args.fields.now in
+    let vs = items c.args.tuple.now.fields in
+    elim c.then-slots-sites.branch [
+      | then-slots-sites-via-then-slots-sites w ↦ agree_other th c.args.target ss c.args.tuple.now.site vs
+          (λ e. w.if-slots-sites.true (cc))
+      | then-slots-sites-via-else-slots-sites+then-tuple-value w ↦
+          agree_far th c.args.target ss c.args.tuple.now.site vs (λ e. w.if-tuple-value.true (e ∙ sym w.value.ensures))
+    ]
 
 pub returns : goal.returns
 returns c =
-    let at = c.loop-j in
-    let ar = c.args in
-    record {
-      value = sym (at.invariant.1 ∙ match_end at.invariant.0 (Same (thread_view ar.th.now)) at.j (omega arith))
-          ∙ agree_here at.invariant.0 (thread_view ar.th.now) ar.target (c.if-tuples-at.false ∙ c.value.ensures);
-      long = λ t. at.invariant.0.same_long;
-    }
+    let th = thread_view c.args.th.now in
+    let ss = items c.args.fields.now in
+    let vs = items c.args.tuple.now.fields in
+    let long : length ss ≡ length vs = cc in
+    let slots = YieldsList-from_slice ss (c.iter.ensures.rest ∙ c.as_slice-slots.ensures.value) in
+    let sites = YieldsList-from_slice vs (c.zip.ensures.second.0 ∙ c.as_slice-sites.ensures.value) in
+    let pairs = YieldsList-from_zip (YieldsList-at c.zip.ensures.first slots) sites in
+    all_from_yields_List (λ p. slot_match (Same th) p.0 p.1) c.all.new.self _ c.all.result c.all.ensures.ran pairs (λ x b q k. search (rules, tests))
+    ∙ pairs_match (Same th) ss vs long
+    ∙ agree_here th c.args.target ss c.args.tuple.now.site vs (c.if-tuple-value.false ∙ c.value.ensures)

@@ -1,22 +1,23 @@
 use mathlib.Core.Path.{sym, ◌∙◌}
 use Prim.Native.Nat.{◌<◌}
 use native.Mathlib.Omega.{arith}
-use Rattle.state.proofs.Few.{arrivals_few}
-use Rattle.withdraws.proofs.Laws.{refused_withdrawn, none_refused, occupied_refused, freed_withdrawn}
+use Rattle.withdraws.proofs.Laws.{refused_withdrawn, none_refused, occupied_refused, root_low, kept_withdrawn}
 use Rattle.withdraws.proofs.withdraw.Goals as goal
 
 pub returns-then-state-eq0 : goal.returns-then-state-eq0
 returns-then-state-eq0 c = refused_withdrawn c.requires (none_refused c.requires c.if-state-eq0.true) c.from.ensures
-
-pub bounds-state-left : goal.bounds-state-left
-bounds-state-left c = omega (arith, arrivals_few c.requires)
 
 pub returns-then-occupied : goal.returns-then-occupied
 returns-then-occupied c =
     let some : 0 < c.args.state.now.arrivals.count = omega arith in
     refused_withdrawn c.requires (occupied_refused c.requires some (sym c.occupied.ensures ∙ c.if-occupied.true)) c.from-then-occupied.ensures
 
+pub truncate-requires : goal.truncate-requires
+truncate-requires c =
+    let some : 0 < c.args.state.now.arrivals.count = omega arith in
+    (omega arith, rw c.from-2.ensures (root_low c.requires some))
+
 pub returns : goal.returns
 returns c =
     let some : 0 < c.args.state.now.arrivals.count = omega arith in
-    freed_withdrawn c.requires some (sym c.occupied.ensures ∙ c.if-occupied.false) c.from-state.ensures
+    kept_withdrawn c.requires some c.truncate.new.self c.truncate-2.new.self c.truncate.ensures.items (c.truncate.ensures.count ∙ c.from-2.ensures) c.truncate-2.ensures.items c.truncate-2.ensures.count (sym c.occupied.ensures ∙ c.if-occupied.false)

@@ -10,8 +10,8 @@ put_byte-next-requires c = omega arith
 
 pub put_number-requires : goal.put_number-requires
 unfolding site_name
-put_number-requires c = omega arith
+put_number-requires c = rw c.from.ensures (omega arith)
 
 pub returns : goal.returns
 unfolding site_name ◌⧺◌
-returns c = wrote_then c.put_byte-next.ensures c.put_number.ensures
+returns c = wrote_then c.put_byte-next.ensures (rw c.from.ensures at c.put_number.ensures)

@@ -1,5 +1,5 @@
-use Rattle.matching.specs.Index.{Indexed}
+use Rattle.matching.specs.Index.{IndexedTo}
 use Rattle.matching.proofs.RowIndex.of.Given as goal
 
 abbrev pub invariant-loop-i : goal.invariant-loop-i
-invariant-loop-i l = Indexed l.i l.rows.bytes l.index.sets
+invariant-loop-i l = IndexedTo l.rows l.i l.index.sets
