@@ -10,12 +10,14 @@ use lib.Dec.{eqb, leb}
 use lib.ListN.{length, length-map}
 use Rattle.sets.specs.Lists.{All, done, more, ◌&◌, either, all}
 use Rattle.sets.proofs.Lists.{eqb_eq, nleb_lt, All-append, or_false, and_yes}
-use Rattle.sets.proofs.Tables.{length_table}
 use Rattle.klaim.specs.Process.{Line}
 use Rattle.klaim.specs.Rows.{Row, row_line, group_t, group_l, group_q, group_a}
 use Rattle.klaim.specs.Reader.{an_arrival, of_group, present, full, headed, own, in_order, site_count, repeated, judge, lines_of}
 use Rattle.klaim.proofs.Above.{map_own}
-use Rattle.tables.specs.View.{lines_view}
+use Rattle.tables.specs.View as View
+use Rattle.tables.specs.View.{Lines}
+use Rattle.tables.proofs.LineTable.{lines_long}
+use Rattle.arrivals.specs.declared.reading.ArrivalReader.{ArrivalReader}
 use Rattle.lines.specs.Lines.{line_view}
 use Rattle.forms.specs.declared.rows.Process.{Process}
 use Rattle.forms.specs.declared.rows.Row.{Row as FormRow}
@@ -26,13 +28,12 @@ use Rattle.scan.specs.Reasons.{early_of, late_of, judging_of, judged_by}
 use Rattle.scan.specs.Tallies.{counted_of}
 use Rattle.scan.proofs.Reasons.{formed}
 use Rattle.scan.proofs.Tallies.{and_under, none_full, counted_turn}
-use Rattle.arrivals.specs.Room.{Room}
-use Rattle.arrivals.specs.Rows.{ArrivalTally, Passed, full_of}
+use Rattle.arrivals.specs.Rows.{ArrivalTally, full_of}
 
 -- as many lines stand in the table as Q rows stand above
-line_count : (above : List Row) (lines : List ℕ) (k : ℕ) → lines_view k lines ≡ lines_of above → length (of_group group_q above) ≡ k
-unfolding lines_view lines_of
-line_count above lines k e = sym (length-map (of_group group_q above) (λ r. r.process)) ∙ ap length (sym e) ∙ length_table k _
+line_count : (above : List Row) (lines : Lines) → View.lines_of lines ≡ lines_of above → length (of_group group_q above) ≡ lines.count
+unfolding lines_of
+line_count above lines e = sym (length-map (of_group group_q above) (λ r. r.process)) ∙ ap length (sym e) ∙ lines_long lines
 
 -- the third of four tests
 third : {a b c x y : Bool} → a ≡ false → b ≡ false → c ≡ false → x ≡ y → either a (either b (either x c)) ≡ y
@@ -40,12 +41,13 @@ unfolding either
 third {a} {b} {c} {x} {y} p q r e = rw (p, q, r) (or_false x ∙ e)
 
 -- a row of a foreign group has no row of its group above
-module _ (n d g : ℕ) (above : List Row) (O : All (λ r. own (an_arrival n d) r.group ≡ true) above) where
-  full_is : (t : Tally) → length (of_group group_q above) ≡ t.lines → full (an_arrival n d) g (length (of_group g above)) ≡ full_of d g t
+module _ (n g : ℕ) (above : List Row) (r : ArrivalReader) (O : All (λ x. own (an_arrival n r.present) x.group ≡ true) above) where
+  full_is : length (of_group group_q above) ≡ r.lines.count → full (an_arrival n r.present) g (length (of_group g above)) ≡ full_of g r
   unfolding full full_of own present
-  full_is t m =
+  full_is m =
+      let d = r.present in
       third (none_full (an_arrival n d) g above O group_t 256 refl refl) (none_full (an_arrival n d) g above O group_l 64 refl refl) (none_full (an_arrival n d) g above O group_a 256 refl refl)
-      (and_under (eqb g group_q) {x = leb 256 (d + length (of_group g above))} {y = leb 256 (d + t.lines)} (λ e. ap (λ (k : ℕ). leb 256 (d + k)) (ap (λ (x : ℕ). length (of_group x above)) (eqb_eq e) ∙ m)))
+      (and_under (eqb g group_q) {x = leb 256 (d + length (of_group g above))} {y = leb 256 (d + r.lines.count)} (λ e. ap (λ (k : ℕ). leb 256 (d + k)) (ap (λ (x : ℕ). length (of_group x above)) (eqb_eq e) ∙ m)))
 
 -- Q rows are in order
 all_own : (n d k : ℕ) (above : List Row) → All (λ r. own (an_arrival n d) r.group ≡ true) above → k ≡ group_q → all (λ b. leb b.group k) above ≡ true
@@ -58,20 +60,20 @@ unfolding ◌&◌
 and_known true h = h refl
 and_known false h = refl
 
--- the tests of a row that stands below those of a tally
-module _ (n d : ℕ) (above : List Row) (lines : List ℕ) (r : Row) (t : Tally) (Y : ArrivalTally n d above t lines) where
-  placed_is : headed (an_arrival n d) above r & own (an_arrival n d) r.group & in_order above r ≡ eqb r.group group_q
+-- the tests of a row that stands below those that are held
+module _ (n : ℕ) (above : List Row) (r : Row) (R : ArrivalReader) (Y : ArrivalTally n R.present above R.tally R.lines) where
+  placed_is : headed (an_arrival n R.present) above r & own (an_arrival n R.present) r.group & in_order above r ≡ eqb r.group group_q
   unfolding headed own in_order
-  placed_is = and_yes _ refl ∙ and_known (eqb r.group group_q) (λ e. all_own n d r.group above Y.owned (eqb_eq e))
+  placed_is = and_yes _ refl ∙ and_known (eqb r.group group_q) (λ e. all_own n R.present r.group above Y.owned (eqb_eq e))
 
   -- "Each row top down: 1, 2, 3, 4, 7."
-  pub judged_is : judge (an_arrival n d) above (some r) ≡ judged_by (judging_of (early_of r (full_of d r.group t) (eqb r.group group_q)) (repeated above r) (late_of t.size r)) r
+  pub judged_is : judge (an_arrival n R.present) above (some r) ≡ judged_by (judging_of (early_of r (full_of r.group R) (eqb r.group group_q)) (repeated above r) (late_of R.tally.size r)) r
   unfolding site_count
-  judged_is = rw (← full_is n d r.group above Y.owned t (line_count above lines t.lines Y.lines_is), ← placed_is, Y.size_is) (formed (an_arrival n d) above r)
+  judged_is = rw (← full_is n r.group above R Y.owned (line_count above R.lines Y.lines_is), ← placed_is, Y.size_is) (formed (an_arrival n R.present) above r)
 
-  pub not_repeated : eqb r.group group_q ≡ true → repeated above r ≡ false
-  unfolding repeated ◌&◌
-  not_repeated e = rw e
+pub not_repeated : (above : List Row) (r : Row) → eqb r.group group_q ≡ true → repeated above r ≡ false
+unfolding repeated ◌&◌
+not_repeated above r e = rw e
 
 -- a row of another group is not let through
 pub only_lines : (row : FormRow) → eqb (row_data row).group group_q ≡ true → ((p : Process) → row ≡ Form.Q p → ⊥) → ⊥
@@ -87,33 +89,19 @@ only_lines (Form.A x) e q = false≢true e
 only_lines (Form.E x) e q = false≢true e
 
 -- there is room for one line more
-pub room : (d g : ℕ) (t : Tally) → eqb g group_q ≡ true → full_of d g t ≡ false → t.lines < 256
+pub room : (g : ℕ) (r : ArrivalReader) → eqb g group_q ≡ true → full_of g r ≡ false → r.lines.count < 256
 unfolding full_of ◌&◌
-room d g t e f = let l = nleb_lt 256 (d + t.lines) (rw e at f) in omega arith
+room g r e f = let l = nleb_lt 256 (r.present + r.lines.count) (rw e at f) in omega arith
 
-pub tally_more : (n d : ℕ) (above : List Row) {lines new : List ℕ} (p : Process) (t : Tally) → ArrivalTally n d above t lines → lines_view (t.lines + 1) new ≡ lines_view t.lines lines ++ (line_view p.line ∷ []) → ArrivalTally n d (above ++ (row_data (Form.Q p) ∷ [])) (counted_of (Form.Q p) t) new
+pub tally_more : (n d : ℕ) (above : List Row) {lines new : Lines} (p : Process) (t : Tally) → ArrivalTally n d above t lines → View.lines_of new ≡ View.lines_of lines ++ (line_view p.line ∷ []) →
+    ArrivalTally n d (above ++ (row_data (Form.Q p) ∷ [])) (counted_of (Form.Q p) lines.count t) new
 unfolding own lines_of row_data process_data row_line
 tally_more n d above {lines} {new} p t Y h = record {
   owned = All-append Y.owned (more refl done);
-  lines_is = h ∙ ap (λ (xs : List Line). xs ++ (line_view p.line ∷ [])) Y.lines_is ∙ sym (map_own (λ r. r.process) group_q above (process_data p) refl);
-  turn = counted_turn above (Form.Q p) t Y.turn;
+  lines_is = h ∙ ap (λ (xs : List Line). xs ++ (line_view p.line ∷ [])) Y.lines_is ∙ sym (line_own (process_data p) refl);
+  turn = counted_turn above (Form.Q p) t Y.turn ∙ ap (λ (k : ℕ). (counted_of (Form.Q p) k t).turn) (sym (ap length Y.lines_is) ∙ lines_long lines);
   size_is = Y.size_is;
 }
-
--- the counts with a Q row let through
-pub room_more : (d : ℕ) (row : FormRow) (t : Tally) → Passed d row t → Room d t → Room d (counted_of row t)
-unfolding row_data size_data pair_data box_data tuple_data root_data bound_data
-room_more d (Form.N x) t P R = absurd (false≢true P.placed)
-room_more d (Form.R x) t P R = absurd (false≢true P.placed)
-room_more d (Form.D x) t P R = absurd (false≢true P.placed)
-room_more d (Form.T x) t P R = absurd (false≢true P.placed)
-room_more d (Form.L x) t P R = absurd (false≢true P.placed)
-room_more d (Form.Q x) t P R = let l : t.lines < 256 = room d _ t P.placed P.room in record {
-  present_few = R.present_few;
-  lines_few = omega arith;
-  tupleless = R.tupleless;
-  rootless = R.rootless;
-}
-room_more d (Form.B x) t P R = absurd (false≢true P.placed)
-room_more d (Form.A x) t P R = absurd (false≢true P.placed)
-room_more d (Form.E x) t P R = absurd (false≢true P.placed)
+  where
+    line_own : (r : Row) → eqb r.group group_q ≡ true → lines_of (above ++ (r ∷ [])) ≡ lines_of above ++ (r.process ∷ [])
+    line_own r e = map_own (λ r. r.process) group_q above r e

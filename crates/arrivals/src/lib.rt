@@ -15,6 +15,7 @@ ghost use Rattle.tables.specs.View.{lines_of};
 
 mod reading;
 
+use entries::{NO_LINE, NO_ROOT};
 use forms::{Group, Row};
 use klaim::{Reason, Refusal};
 use reading::ArrivalReader;
@@ -35,7 +36,7 @@ impl ArrivalReader {
         ensures { ArrivalHolds (an_arrival n present) [] result }
     {
         ArrivalReader {
-            lines: [0; 2560],
+            lines: Lines::empty(NO_LINE),
             tally: Tally::start(n),
             present,
         }
@@ -43,47 +44,41 @@ impl ArrivalReader {
 
     // Whether no row of this group may follow.
     fn is_full(&self, group: Group) -> bool
-        ensures { result ≡ full_of self.now.present (group_number group) self.now.tally }
+        ensures { result ≡ full_of (group_number group) self.now }
     {
         // `&` has no branch, so that the proof has one path.
-        is_own(group) & (LINES <= self.present + self.tally.lines)
+        is_own(group) & (LINES <= self.present + self.lines.count)
     }
 
     // Whether the row is let through.
     fn admits(&self, row: &Row) -> Result<(), Reason>
         ensures judged { (t : Text) (above : List Spec.Row) → ArrivalHolds t above self.now → judge t above (some (row_data row.now)) ≡ judged_by result (row_data row.now) }
-        ensures passed { OnOk result (Passed self.now.present row.now self.now.tally) }
+        ensures passed { OnOk result (Passed row.now self.now) }
     {
         let group = row.group();
         scan::early(row, self.is_full(group), is_own(group))?;
         scan::late(row, self.tally.size)
     }
 
-    // The line of a Q row put into the table, and not counted yet.
+    // The line of a Q row put into the table.
     fn put(&mut self, row: &Row)
-        requires { Passed self.old.present row.now self.old.tally }
+        requires { Passed row.now self.old }
         ensures same { (self.new.tally ≡ self.old.tally) × (self.new.present ≡ self.old.present) }
-        ensures counts { (n : ℕ) (above : List Spec.Row) → ArrivalTally n self.old.present above self.old.tally self.old.lines → ArrivalTally n self.new.present (above ++ (row_data row.now ∷ [])) (counted_of row.now self.old.tally) self.new.lines }
+        ensures counts { (n : ℕ) (above : List Spec.Row) → ArrivalTally n self.old.present above self.old.tally self.old.lines → ArrivalTally n self.new.present (above ++ (row_data row.now ∷ [])) (counted_of row.now self.old.lines.count self.old.tally) self.new.lines }
     {
         if let Row::Q(process) = row {
-            stores::put_process(&mut self.lines, self.tally.lines, process);
+            self.lines.push(entries::line(process));
         }
     }
 
-    // The lines of the arrival, or why the text as a whole is refused. Line 0 is the root, as a root of zeros says.
+    // The lines of the arrival, or why the text as a whole is refused. Line 0 is the root.
     fn finish(&self) -> Result<Lines, Refusal>
         ensures { (t : Text) (rows : List Spec.Row) → ArrivalHolds t rows self.now → answer_of lines_of result ≡ whole (numbers_of rows) (lines_in rows) (0 ∷ []) (lines_in rows) }
     {
-        let lines = Lines {
-            bytes: self.lines,
-            count: self.tally.lines,
-        };
-        let root = Roots {
-            bytes: [0; 128],
-            count: 1,
-        };
-        whole::whole(self.tally.turn, &lines, &root)?;
-        Ok(lines)
+        let mut root = Roots::empty(NO_ROOT);
+        root.push(NO_ROOT);
+        whole::whole(self.tally.turn, &self.lines, &root)?;
+        Ok(self.lines)
     }
 }
 
@@ -92,8 +87,9 @@ impl Reader for ArrivalReader {
 
     fn take(&mut self, row: &Row) -> Result<(), Reason> {
         self.admits(row)?;
+        let lines = self.lines.count;
         self.put(row);
-        self.tally.count(row);
+        self.tally.count(row, lines);
         Ok(())
     }
 }

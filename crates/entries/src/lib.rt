@@ -11,10 +11,22 @@ ghost use Rattle.tables.specs.View.{action_line, tuple_view, root_view};
 ghost use Rattle.entries.specs.Entries.{cut_loc, cut_slot};
 
 use forms::Process;
-use klaim::{Loc, Site, Slot, Var};
+use klaim::{Fields, Loc, Site, Slot, Var};
 use lines::Line;
 use tables::{Action, Root, Tuple};
 use text::{Field, SiteName, Target};
+
+// What stands in the room of a table that has no entries yet.
+pub const NO_LINE: tables::Line = tables::Line {
+    action: Action::Nil,
+};
+
+pub const NO_TUPLE: Tuple = Tuple {
+    site: 0,
+    fields: Fields::One([0]),
+};
+
+pub const NO_ROOT: Root = Root { site: 0, line: 0 };
 
 // How many numbers a byte can hold.
 const BYTES: u16 = 256;

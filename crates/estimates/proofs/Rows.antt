@@ -4,7 +4,7 @@ use mathlib.Core.Path.{◌≡◌, refl, sym, ap, ◌∙◌}
 use mathlib.Core.Bool.{Bool, true, false, cond}
 use mathlib.Core.List.{List, [], ◌∷◌, ◌++◌, map}
 use mathlib.Core.Option.{some}
-use Prim.Native.Nat.{ℕ, ◌+◌, ◌<◌, ◌≤◌, ◌^◌}
+use Prim.Native.Nat.{ℕ, ◌<◌, ◌≤◌, ◌^◌}
 use native.Mathlib.Nat.{zero-add}
 use native.Mathlib.Omega.{arith}
 use lib.Dec.{eqb, leb}
@@ -17,7 +17,8 @@ use Rattle.klaim.specs.Limits.{tuple_limit}
 use Rattle.klaim.specs.Rows.{Row, row_line, group_n, group_t, group_l, group_q, group_b, group_a, group_e}
 use Rattle.klaim.specs.Reader.{an_estimate, of_group, present, full, headed, own, in_order, site_count, repeated, judge, gather, pair_place, nth}
 use Rattle.klaim.proofs.Above.{group_other, map_other, map_own, last_snoc}
-use Rattle.tables.specs.View.{rows_view}
+use Rattle.tables.specs.View.{Tuples, tuples_of}
+use Rattle.stores.specs.Sets.{pairs_of, bounds_of}
 use Rattle.forms.specs.declared.rows.Pair.{Pair}
 use Rattle.forms.specs.declared.rows.Sandbox.{Sandbox}
 use Rattle.forms.specs.declared.rows.Tuple.{Tuple}
@@ -32,11 +33,10 @@ use Rattle.scan.specs.Tallies.{last_number, counted_of}
 use Rattle.scan.specs.Reasons.{early_of, late_of, judging_of, judged_by}
 use Rattle.scan.proofs.Reasons.{formed}
 use Rattle.scan.proofs.Tallies.{and_under, none_full, counted_size, counted_last}
-use Rattle.repeats.specs.Kept.{KeysAre}
+use Rattle.repeats.specs.Kept.{Keys, KeysAre}
 use Rattle.repeats.proofs.Rows.{as_kept}
 use Rattle.repeats.proofs.Keys.{keys_other}
 use Rattle.estimates.specs.declared.reading.EstimateReader.{EstimateReader}
-use Rattle.estimates.specs.Room.{Room}
 use Rattle.estimates.specs.Rows.{EstimateTables, EstimateTally, Passed, full_of, placed_of}
 
 -- no row of a foreign group is let through
@@ -81,20 +81,21 @@ none_other (Form.A x) t h b a e = a x refl
 none_other (Form.E p) t h b a e = e p refl
 
 -- the tables, with a row more that stands in one of them
-module _ {above : List Row} {R : EstimateReader} {t : Tally} (T : EstimateTables above R t) where
-  binds_other : (r : Row) → eqb r.group group_b ≡ false → R.binds ≡ gather 32 (λ r. nth r.vars 0) (λ r. 2 ^ nth r.sites 0) (of_group group_b (above ++ (r ∷ [])))
+module _ {above : List Row} {R : EstimateReader} (T : EstimateTables above R) where
+  binds_other : (r : Row) → eqb r.group group_b ≡ false → R.binds ≡ bounds_of (above ++ (r ∷ []))
   binds_other r e = T.binds_is ∙ sym (ap (gather 32 (λ r. nth r.vars 0) (λ r. 2 ^ nth r.sites 0)) (group_other group_b above r e))
 
-  stand_other : (r : Row) → eqb r.group group_a ≡ false → rows_view t.tuples R.stand ≡ map (λ r. r.sites) (of_group group_a (above ++ (r ∷ [])))
+  stand_other : (r : Row) → eqb r.group group_a ≡ false → tuples_of R.stand ≡ map (λ r. r.sites) (of_group group_a (above ++ (r ∷ [])))
   stand_other r e = T.stand_is ∙ sym (map_other (λ r. r.sites) group_a above r e)
 
-  hold_other : (r : Row) → eqb r.group group_e ≡ false → R.hold ≡ gather 1024 pair_place (λ r. r.rights) (of_group group_e (above ++ (r ∷ [])))
+  hold_other : (r : Row) → eqb r.group group_e ≡ false → R.hold ≡ pairs_of group_e (above ++ (r ∷ []))
   hold_other r e = T.hold_is ∙ sym (ap (gather 1024 pair_place (λ r. r.rights)) (group_other group_e above r e))
 
-  no_key : (r : Row) → (r.group ≡ group_a → ⊥) → KeysAre group_a (above ++ (r ∷ [])) R.keys t.tuples
+  no_key : (r : Row) → (r.group ≡ group_a → ⊥) → KeysAre group_a (above ++ (r ∷ [])) R.keys
   no_key r e = keys_other r e T.keys_are
 
-  pub tables_b : (b : Bound) {new : List ℕ} {room : Room R.tally} → new ≡ gather 32 (λ r. nth r.vars 0) (λ r. 2 ^ nth r.sites 0) (of_group group_b (above ++ (bound_data b ∷ []))) → EstimateTables (above ++ (row_data (Form.B b) ∷ [])) (record R { binds = new; room = room }) (counted_of (Form.B b) t)
+  pub tables_b : (b : Bound) {new : List ℕ} {k : R.keys.count ≡ R.stand.count} → new ≡ bounds_of (above ++ (bound_data b ∷ [])) →
+      EstimateTables (above ++ (row_data (Form.B b) ∷ [])) (record R { binds = new; keyed = k })
   unfolding row_data bound_data
   tables_b b h = record {
     binds_is = h;
@@ -103,7 +104,8 @@ module _ {above : List Row} {R : EstimateReader} {t : Tally} (T : EstimateTables
     keys_are = no_key (bound_data b) (λ e. omega arith);
   }
 
-  pub tables_a : (x : Tuple) {new keys : List ℕ} {room : Room R.tally} → rows_view (t.tuples + 1) new ≡ rows_view t.tuples R.stand ++ (sites_of x ∷ []) → KeysAre group_a (above ++ (tuple_data group_a x ∷ [])) keys (t.tuples + 1) → EstimateTables (above ++ (row_data (Form.A x) ∷ [])) (record R { stand = new; keys = keys; room = room }) (counted_of (Form.A x) t)
+  pub tables_a : (x : Tuple) {new : Tuples} {keys : Keys} {k : keys.count ≡ new.count} → tuples_of new ≡ tuples_of R.stand ++ (sites_of x ∷ []) →
+      KeysAre group_a (above ++ (tuple_data group_a x ∷ [])) keys → EstimateTables (above ++ (row_data (Form.A x) ∷ [])) (record R { stand = new; keys = keys; keyed = k })
   unfolding row_data tuple_data
   tables_a x h K = record {
     binds_is = binds_other (tuple_data group_a x) refl;
@@ -112,7 +114,8 @@ module _ {above : List Row} {R : EstimateReader} {t : Tally} (T : EstimateTables
     keys_are = K;
   }
 
-  pub tables_e : (p : Pair) {new : List ℕ} {room : Room R.tally} → new ≡ gather 1024 pair_place (λ r. r.rights) (of_group group_e (above ++ (pair_data group_e p ∷ []))) → EstimateTables (above ++ (row_data (Form.E p) ∷ [])) (record R { hold = new; room = room }) (counted_of (Form.E p) t)
+  pub tables_e : (p : Pair) {new : List ℕ} {k : R.keys.count ≡ R.stand.count} → new ≡ pairs_of group_e (above ++ (pair_data group_e p ∷ [])) →
+      EstimateTables (above ++ (row_data (Form.E p) ∷ [])) (record R { hold = new; keyed = k })
   unfolding row_data pair_data
   tables_e p h = record {
     binds_is = binds_other (pair_data group_e p) refl;
@@ -121,14 +124,14 @@ module _ {above : List Row} {R : EstimateReader} {t : Tally} (T : EstimateTables
     keys_are = no_key (pair_data group_e p) (λ e. omega arith);
   }
 
--- the tally beside the tables is that which counts their rows
-pub recounted : {above : List Row} {R : EstimateReader} {t u : Tally} → EstimateTables above R t → u ≡ t → {room : Room u} → EstimateTables above (record R { tally = u; room = room }) u
-recounted T e = record { binds_is = T.binds_is; stand_is = rw e T.stand_is; hold_is = T.hold_is; keys_are = rw e T.keys_are }
+-- the same tables beside another tally
+pub recounted : {above : List Row} {R : EstimateReader} → EstimateTables above R → {t : Tally} {k : R.keys.count ≡ R.stand.count} → EstimateTables above (record R { tally = t; keyed = k })
+recounted T = record { binds_is = T.binds_is; stand_is = T.stand_is; hold_is = T.hold_is; keys_are = T.keys_are }
 
 -- as many tuples stand in the table as A rows stand above
-stand_count : {above : List Row} {R : EstimateReader} {t : Tally} → EstimateTables above R t → length (of_group group_a above) ≡ t.tuples
-unfolding rows_view
-stand_count {above} {R} {t} T = sym (length-map (of_group group_a above) (λ r. r.sites)) ∙ ap length (sym T.stand_is) ∙ length_table t.tuples _
+stand_count : {above : List Row} {R : EstimateReader} → EstimateTables above R → length (of_group group_a above) ≡ R.stand.count
+unfolding tuples_of
+stand_count {above} {R} T = sym (length-map (of_group group_a above) (λ r. r.sites)) ∙ ap length (sym T.stand_is) ∙ length_table R.stand.count _
 
 -- the last of four tests
 fourth : {a b c x y : Bool} → a ≡ false → b ≡ false → c ≡ false → x ≡ y → either a (either b (either c x)) ≡ y
@@ -137,50 +140,39 @@ fourth p q r e = rw (p, q, r) e
 
 -- a row of a foreign group has no row of its group above
 module _ (n g : ℕ) (above : List Row) (O : All (λ r. own (an_estimate n) r.group ≡ true) above) where
-  full_is : (t : Tally) → length (of_group group_a above) ≡ t.tuples → full (an_estimate n) g (length (of_group g above)) ≡ full_of g t
+  full_is : (R : EstimateReader) → length (of_group group_a above) ≡ R.stand.count → full (an_estimate n) g (length (of_group g above)) ≡ full_of g R
   unfolding full full_of own present
-  full_is t m =
+  full_is R m =
       fourth (none_full (an_estimate n) g above O group_t 256 refl refl) (none_full (an_estimate n) g above O group_l 64 refl refl) (ap (λ (k : ℕ). eqb g group_q & leb 256 k) (zero-add (length (of_group g above))) ∙ none_full (an_estimate n) g above O group_q 256 refl refl)
-      (and_under (eqb g group_a) {x = leb 256 (length (of_group g above))} {y = leb 256 t.tuples} (λ e. ap (leb 256) (ap (λ (x : ℕ). length (of_group x above)) (eqb_eq e) ∙ m)))
+      (and_under (eqb g group_a) {x = leb 256 (length (of_group g above))} {y = leb 256 R.stand.count} (λ e. ap (leb 256) (ap (λ (x : ℕ). length (of_group x above)) (eqb_eq e) ∙ m)))
 
--- the tests of a row that stands below those of a tally
-module _ (n : ℕ) (above : List Row) (t : Tally) (Y : EstimateTally n above t) where
-  placed_is : (r : Row) → headed (an_estimate n) above r & own (an_estimate n) r.group & in_order above r ≡ placed_of r.group t
+-- the tests of a row that stands below those that are held
+module _ (n : ℕ) (above : List Row) (R : EstimateReader) (Y : EstimateTally n above R.tally) where
+  placed_is : (r : Row) → headed (an_estimate n) above r & own (an_estimate n) r.group & in_order above r ≡ placed_of r.group R.tally
   unfolding headed own placed_of ◌&◌
   placed_is r = rw (Y.order r)
 
   -- the tally, with the row more
-  pub tally_more : (row : FormRow) → Passed row t → EstimateTally n (above ++ (row_data row ∷ [])) (counted_of row t)
+  pub tally_more : (row : FormRow) → Passed row R → EstimateTally n (above ++ (row_data row ∷ [])) (counted_of row 0 R.tally)
   unfolding own placed_of
   tally_more row P =
       let r = row_data row in
+      let t = R.tally in
       let b : leb group_b r.group ≡ true = and_l _ _ P.placed in
       record {
         kept = All-append Y.kept (more (as_kept row P.low) done);
         owned = All-append Y.owned (more b done);
-        order = λ x. last_snoc above (last_number t.last) r Y.order (and_r _ _ P.placed) x ∙ ap (λ (g : ℕ). leb g x.group) (sym (counted_last row t));
-        size_is = counted_size row t ∙ ap (λ (x : Bool). cond x r.size t.size) (ne_eqb r.group group_n (λ e. omega (arith, leb_le group_b r.group b))) ∙ Y.size_is;
+        order = λ x. last_snoc above (last_number t.last) r Y.order (and_r _ _ P.placed) x ∙ ap (λ (g : ℕ). leb g x.group) (sym (counted_last row 0 t));
+        size_is = counted_size row 0 t ∙ ap (λ (x : Bool). cond x r.size t.size) (ne_eqb r.group group_n (λ e. omega (arith, leb_le group_b r.group b))) ∙ Y.size_is;
       }
 
   -- "Each row top down: 1, 2, 3, 4, 7."
-  pub judged_is : {R : EstimateReader} (r : Row) → EstimateTables above R t → judge (an_estimate n) above (some r) ≡ judged_by (judging_of (early_of r (full_of r.group t) (placed_of r.group t)) (repeated above r) (late_of t.size r)) r
+  pub judged_is : (r : Row) → EstimateTables above R →
+      judge (an_estimate n) above (some r) ≡ judged_by (judging_of (early_of r (full_of r.group R) (placed_of r.group R.tally)) (repeated above r) (late_of R.tally.size r)) r
   unfolding site_count
-  judged_is {R} r T = rw (← full_is n r.group above Y.owned t (stand_count T), ← placed_is r, Y.size_is) (formed (an_estimate n) above r)
+  judged_is r T = rw (← full_is n r.group above Y.owned R (stand_count T), ← placed_is r, Y.size_is) (formed (an_estimate n) above r)
 
 -- there is room for one A row more
-pub room_a : (g : ℕ) (t : Tally) → g ≡ group_a → full_of g t ≡ false → t.tuples < 256
+pub room_a : (g : ℕ) (R : EstimateReader) → g ≡ group_a → full_of g R ≡ false → R.stand.count < 256
 unfolding full_of ◌&◌
-room_a g t e f = nleb_lt tuple_limit t.tuples (rw e at f)
-
--- the counts with a row let through
-pub room_more : (row : FormRow) (t : Tally) → Passed row t → Room t → Room (counted_of row t)
-unfolding row_data tuple_data
-room_more (Form.N n) t P R = record { tuples_few = R.tuples_few; rootless = R.rootless; lineless = R.lineless }
-room_more (Form.R p) t P R = record { tuples_few = R.tuples_few; rootless = R.rootless; lineless = R.lineless }
-room_more (Form.D b) t P R = record { tuples_few = R.tuples_few; rootless = R.rootless; lineless = R.lineless }
-room_more (Form.T x) t P R = absurd (foreign_t x t P.placed)
-room_more (Form.L x) t P R = absurd (foreign_l x t P.placed)
-room_more (Form.Q p) t P R = absurd (foreign_q p t P.placed)
-room_more (Form.B b) t P R = record { tuples_few = R.tuples_few; rootless = R.rootless; lineless = R.lineless }
-room_more (Form.A x) t P R = let l : t.tuples < 256 = room_a group_a t refl P.room in record { tuples_few = omega arith; rootless = R.rootless; lineless = R.lineless }
-room_more (Form.E p) t P R = record { tuples_few = R.tuples_few; rootless = R.rootless; lineless = R.lineless }
+room_a g R e f = nleb_lt tuple_limit R.stand.count (rw e at f)

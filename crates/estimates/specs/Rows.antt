@@ -1,11 +1,12 @@
 -- What a reader of an estimate keeps of the rows above.
 -- Assumes nothing.
-use Rattle.std.specs.Prelude.{◌≡◌, Bool, true, false, List, map, ℕ, ◌^◌, eqb, leb}
+use Rattle.std.specs.Prelude.{◌≡◌, Bool, true, false, List, map, ℕ, eqb, leb}
 use Rattle.sets.specs.Lists.{All, ◌&◌}
 use Rattle.klaim.specs.Limits.{tuple_limit}
 use Rattle.klaim.specs.Rows.{Row, group_b, group_a, group_e}
-use Rattle.klaim.specs.Reader.{Text, an_estimate, in_limits, of_group, own, in_order, gather, pair_place, nth}
-use Rattle.tables.specs.View.{rows_view}
+use Rattle.klaim.specs.Reader.{Text, an_estimate, in_limits, of_group, own, in_order}
+use Rattle.tables.specs.View.{tuples_of}
+use Rattle.stores.specs.Sets.{pairs_of, bounds_of}
 use Rattle.forms.specs.declared.rows.Row as Form
 use Rattle.forms.specs.Forms.{row_data}
 use Rattle.scan.specs.declared.Tally.{Tally}
@@ -13,12 +14,12 @@ use Rattle.scan.specs.Tallies.{last_number}
 use Rattle.repeats.specs.Kept.{Kept, KeysAre}
 use Rattle.estimates.specs.declared.reading.EstimateReader.{EstimateReader}
 
--- the tables hold the rows above, as many tuples as the tally counts
-pub record EstimateTables (above : List Row) (r : EstimateReader) (t : Tally) : Type 0 where
-  pub binds_is : r.binds ≡ gather 32 (λ r. nth r.vars 0) (λ r. 2 ^ nth r.sites 0) (of_group group_b above)
-  pub stand_is : rows_view t.tuples r.stand ≡ map (λ r. r.sites) (of_group group_a above)
-  pub hold_is : r.hold ≡ gather 1024 pair_place (λ r. r.rights) (of_group group_e above)
-  pub keys_are : KeysAre group_a above r.keys t.tuples
+-- the tables hold the rows above
+pub record EstimateTables (above : List Row) (r : EstimateReader) : Type 0 where
+  pub binds_is : r.binds ≡ bounds_of above
+  pub stand_is : tuples_of r.stand ≡ map (λ r. r.sites) (of_group group_a above)
+  pub hold_is : r.hold ≡ pairs_of group_e above
+  pub keys_are : KeysAre group_a above r.keys
 
 -- the tally of the rows above, n given
 pub record EstimateTally (n : ℕ) (above : List Row) (t : Tally) : Type 0 where
@@ -31,19 +32,19 @@ pub record EstimateTally (n : ℕ) (above : List Row) (t : Tally) : Type 0 where
 pub record EstimateHolds (t : Text) (above : List Row) (r : EstimateReader) : Type 0 where
   pub n : ℕ
   pub text : t ≡ an_estimate n
-  pub tables : EstimateTables above r r.tally
+  pub tables : EstimateTables above r
   pub counts : EstimateTally n above r.tally
 
 -- 2: "row count over its limit"
-unfoldable pub full_of : ℕ → Tally → Bool
-full_of g t = eqb g group_a & leb tuple_limit t.tuples
+unfoldable pub full_of : ℕ → EstimateReader → Bool
+full_of g r = eqb g group_a & leb tuple_limit r.stand.count
 
 -- 3, but for repeats: no foreign row, groups in order
 unfoldable pub placed_of : ℕ → Tally → Bool
 placed_of g t = leb group_b g & leb (last_number t.last) g
 
 -- a row that 2 and the order let through
-pub record Passed (row : Form.Row) (t : Tally) : Type 0 where
+pub record Passed (row : Form.Row) (r : EstimateReader) : Type 0 where
   pub low : in_limits (row_data row) ≡ true
-  pub room : full_of (row_data row).group t ≡ false
-  pub placed : placed_of (row_data row).group t ≡ true
+  pub room : full_of (row_data row).group r ≡ false
+  pub placed : placed_of (row_data row).group r.tally ≡ true

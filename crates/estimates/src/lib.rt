@@ -10,16 +10,17 @@ ghost use Rattle.std.proofs.Math.Option.{some};
 ghost use Rattle.tables.specs.View.{estimate_view};
 ghost use Rattle.forms.specs.Forms.{group_number, row_data};
 ghost use Rattle.scan.specs.Reasons.{judged_by};
-ghost use Rattle.scan.specs.Tallies.{counted_of};
 ghost use Rattle.estimates.specs.Rows.{EstimateTables, EstimateHolds, Passed, full_of, placed_of};
 
 mod reading;
 
+use entries::NO_TUPLE;
 use forms::{Group, Row};
 use klaim::{Reason, Refusal};
 use reading::EstimateReader;
+use repeats::Keys;
 use scan::{Reader, Tally};
-use tables::{Estimate, TUPLES, Tuples};
+use tables::{Estimate, HOMES, TUPLES, Tuples, VARIABLES};
 
 // Whether a group is that of the tuples, and whether it is one of an estimate's.
 fn is_tuples(group: Group) -> bool
@@ -37,10 +38,10 @@ fn is_own(group: Group) -> bool
 impl EstimateReader {
     // Whether no row of this group may follow.
     fn is_full(&self, group: Group) -> bool
-        ensures { result ≡ full_of (group_number group) self.now.tally }
+        ensures { result ≡ full_of (group_number group) self.now }
     {
         // `&` has no branch, so that the proof has one path.
-        is_tuples(group) & (TUPLES <= self.tally.tuples)
+        is_tuples(group) & (TUPLES <= self.stand.count)
     }
 
     // Whether a row of this group may follow the rows above.
@@ -58,7 +59,7 @@ impl EstimateReader {
     {
         match row {
             Row::B(bound) => repeats::bound_seen(&self.binds, bound),
-            Row::A(tuple) => repeats::tuple_seen(&self.keys, self.tally.tuples, tuple),
+            Row::A(tuple) => repeats::tuple_seen(&self.keys, tuple),
             Row::E(pair) => repeats::pair_seen(&self.hold, pair),
             _ => false,
         }
@@ -67,7 +68,7 @@ impl EstimateReader {
     // Whether the row is let through.
     fn admits(&self, row: &Row) -> Result<(), Reason>
         ensures judged { (t : Text) (above : List Spec.Row) → EstimateHolds t above self.now → judge t above (some (row_data row.now)) ≡ judged_by result (row_data row.now) }
-        ensures passed { OnOk result (Passed row.now self.now.tally) }
+        ensures passed { OnOk result (Passed row.now self.now) }
     {
         let group = row.group();
         scan::early(row, self.is_full(group), self.is_placed(group))?;
@@ -77,17 +78,17 @@ impl EstimateReader {
         scan::late(row, self.tally.size)
     }
 
-    // The row put into its table, and not counted yet.
+    // The row put into its table.
     fn put(&mut self, row: &Row)
-        requires { Passed row.now self.old.tally }
+        requires { Passed row.now self.old }
         ensures tally_same { self.new.tally ≡ self.old.tally }
-        ensures tables { (above : List Spec.Row) → EstimateTables above self.old self.old.tally → EstimateTables (above ++ (row_data row.now ∷ [])) self.new (counted_of row.now self.old.tally) }
+        ensures tables { (above : List Spec.Row) → EstimateTables above self.old → EstimateTables (above ++ (row_data row.now ∷ [])) self.new }
     {
         match row {
             Row::B(bound) => stores::put_bound(&mut self.binds, bound),
             Row::A(tuple) => {
-                stores::put_row(&mut self.stand, self.tally.tuples, tuple);
-                repeats::keep_key(&mut self.keys, self.tally.tuples, tuple);
+                self.stand.push(entries::tuple(tuple));
+                repeats::keep_key(&mut self.keys, tuple);
             }
             Row::E(pair) => stores::put_pair(&mut self.hold, pair),
             _ => {}
@@ -100,10 +101,7 @@ impl EstimateReader {
     {
         Estimate {
             binds: self.binds,
-            stand: Tuples {
-                bytes: self.stand,
-                count: self.tally.tuples,
-            },
+            stand: self.stand,
             hold: self.hold,
         }
     }
@@ -115,7 +113,8 @@ impl Reader for EstimateReader {
     fn take(&mut self, row: &Row) -> Result<(), Reason> {
         self.admits(row)?;
         self.put(row);
-        self.tally.count(row);
+        // No lines stand in an estimate.
+        self.tally.count(row, 0);
         Ok(())
     }
 }
@@ -126,10 +125,10 @@ pub fn read_estimate(n: u8, s: &[u8]) -> Result<Estimate, Refusal>
 {
     // Made in its place, as a net's.
     let mut reader = EstimateReader {
-        binds: [0; 32],
-        stand: [0; 1536],
-        keys: [0; 256],
-        hold: [0; 1024],
+        binds: [0; VARIABLES],
+        stand: Tuples::empty(NO_TUPLE),
+        keys: Keys::empty(0),
+        hold: [0; HOMES],
         tally: Tally::start(n),
     };
     scan::read(&mut reader, s)?;

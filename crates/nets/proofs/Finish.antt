@@ -4,13 +4,12 @@ use mathlib.Core.Path.{◌≡◌, sym, ap, ap₂, ◌∙◌}
 use mathlib.Core.Bool.{Bool, true, false, cond}
 use mathlib.Core.List.{List, map}
 use Prim.Native.Nat.{ℕ}
-use lib.ListN.{length}
-use Rattle.sets.specs.Lists.{empty, below, same}
-use Rattle.sets.proofs.Tables.{length_table}
+use Rattle.sets.specs.Lists.{empty}
 use Rattle.klaim.specs.Rows.{Row}
 use Rattle.klaim.specs.Reader.{a_net, refused, whole, numbers_of, lines_of, net_of, whole_net}
 use Rattle.tables.specs.declared.Net.{Net}
-use Rattle.tables.specs.View.{roots_view, lines_view, net_view}
+use Rattle.tables.specs.View as View
+use Rattle.tables.specs.View.{roots_of, net_view}
 use Rattle.whole.specs.Reasons.{whole_of, whole_answer}
 use Rattle.whole.proofs.Reasons.{whole_is}
 use Rattle.nets.specs.declared.reading.NetReader.{NetReader}
@@ -29,9 +28,9 @@ read_off r = record {
   size = r.tally.size;
   homes = r.homes;
   boxes = cleared (with_own r.boxes);
-  tuples = record { bytes = r.tuples; count = r.tally.tuples };
-  roots = record { bytes = r.roots; count = r.tally.roots };
-  lines = record { bytes = r.lines; count = r.tally.lines };
+  tuples = r.tuples;
+  roots = r.roots;
+  lines = r.lines;
 }
 
 module _ {rows : List Row} {r : NetReader} (H : NetHolds a_net rows r) where
@@ -39,18 +38,14 @@ module _ {rows : List Row} {r : NetReader} (H : NetHolds a_net rows r) where
   unfolding net_of
   tables_say = rw (sym H.counts.size_is, H.tables.homes_is, ap (λ (t : List ℕ). cleared (with_own t)) H.tables.boxes_is ∙ defaults_put H.counts.kept, H.tables.tuples_is, H.tables.roots_is, H.tables.lines_is)
 
-  lines_say : whole_of r.tally.turn (lines_view r.tally.lines r.lines) (map (λ x. x.line) (roots_view r.tally.roots r.roots)) ≡ whole_of r.tally.turn (lines_of rows) (map (λ x. x.line) (net_of rows).roots)
+  lines_say : whole_of r.tally.turn (View.lines_of r.lines) (map (λ x. x.line) (roots_of r.roots)) ≡ whole_of r.tally.turn (lines_of rows) (map (λ x. x.line) (net_of rows).roots)
   unfolding net_of
   lines_say = ap₂ (whole_of r.tally.turn) H.tables.lines_is (ap (map (λ x. x.line)) H.tables.roots_is)
 
-  turn_same : same (numbers_of rows) (below (length (lines_of rows))) ≡ r.tally.turn
-  unfolding lines_view
-  turn_same = ap (λ (k : ℕ). same (numbers_of rows) (below k)) (sym (ap length H.tables.lines_is) ∙ length_table r.tally.lines _) ∙ H.counts.turn
-
   -- "Then 5, 6, 8, each over the whole text."
-  pub net_is : empty rows ≡ false → whole_answer (whole_of r.tally.turn (lines_view r.tally.lines r.lines) (map (λ x. x.line) (roots_view r.tally.roots r.roots))) (net_view (read_off r)) ≡ whole_net rows
+  pub net_is : empty rows ≡ false → whole_answer (whole_of r.tally.turn (View.lines_of r.lines) (map (λ x. x.line) (roots_of r.roots))) (net_view (read_off r)) ≡ whole_net rows
   unfolding whole_net
   net_is e =
       ap₂ whole_answer lines_say tables_say
-      ∙ sym (whole_is r.tally.turn (numbers_of rows) (lines_of rows) (map (λ x. x.line) (net_of rows).roots) (net_of rows) turn_same)
+      ∙ sym (whole_is r.tally.turn (numbers_of rows) (lines_of rows) (map (λ x. x.line) (net_of rows).roots) (net_of rows) H.counts.turn)
       ∙ ap (λ (b : Bool). cond b (refused 3 1) (whole (numbers_of rows) (lines_of rows) (map (λ r. r.line) (net_of rows).roots) (net_of rows))) (sym e)

@@ -12,11 +12,14 @@ use lib.ListN.{length, length-map}
 use Rattle.sets.specs.Lists.{done, more, ◌&◌, either, imp, any, empty, same}
 use Rattle.sets.proofs.Lists.{and_l, and_r, imp_e, eqb_eq, leb_le, nleb_lt, All-append, or_false}
 use Rattle.sets.proofs.Tables.{length_table}
-use Rattle.klaim.specs.Limits.{tuple_limit, thread_limit, line_limit}
+use Rattle.klaim.specs.Limits.{site_limit, tuple_limit, thread_limit, line_limit}
 use Rattle.klaim.specs.Rows.{Row, row_line, group_n, group_r, group_d, group_t, group_l, group_q, group_a}
-use Rattle.klaim.specs.Reader.{a_net, judge, key, repeated, of_group, present, full, headed, own, in_order, size_of, site_count, gather, pair_place, put_boxes, root_of, lines_of}
+use Rattle.klaim.specs.Reader.{a_net, in_limits, judge, key, repeated, of_group, present, full, headed, own, in_order, size_of, site_count, gather, pair_place, put_boxes, root_of, lines_of}
 use Rattle.klaim.proofs.Above.{group_other, map_other, map_own, last_snoc}
-use Rattle.tables.specs.View.{rows_view, roots_view, lines_view}
+use Rattle.tables.specs.View as View
+use Rattle.tables.specs.View.{Lines, Tuples, Roots, tuples_of, roots_of}
+use Rattle.tables.proofs.LineTable.{lines_long}
+use Rattle.stores.specs.Sets.{pairs_of, boxes_of}
 use Rattle.lines.specs.Lines.{line_view}
 use Rattle.forms.specs.declared.rows.Pair.{Pair}
 use Rattle.forms.specs.declared.rows.Sandbox.{Sandbox}
@@ -35,11 +38,10 @@ use Rattle.scan.specs.Tallies.{last_number, counted_of}
 use Rattle.scan.specs.Reasons.{early_of, late_of, judging_of, judged_by}
 use Rattle.scan.proofs.Reasons.{formed}
 use Rattle.scan.proofs.Tallies.{group_none, counted_size, counted_last, counted_turn}
-use Rattle.repeats.specs.Kept.{KeysAre, unsaid_boxes}
+use Rattle.repeats.specs.Kept.{Keys, KeysAre, unsaid_boxes}
 use Rattle.repeats.proofs.Keys.{keys_other}
 use Rattle.repeats.proofs.Rows.{as_kept}
 use Rattle.nets.specs.declared.reading.NetReader.{NetReader}
-use Rattle.nets.specs.Room.{Room}
 use Rattle.nets.specs.Rows.{NetTables, NetTally, full_of, placed_of, Passed}
 
 -- no row of a foreign group is let through
@@ -60,27 +62,27 @@ unfolding row_data pair_data
 foreign_e p t h = let l = own_group 9 t h in omega arith
 
 -- the tables, with a row more that stands in one of them
-module _ {above : List Row} {R : NetReader} {t : Tally} (T : NetTables above R t) where
-  homes_other : (r : Row) → eqb r.group group_r ≡ false → R.homes ≡ gather 1024 pair_place (λ r. r.rights) (of_group group_r (above ++ (r ∷ [])))
+module _ {above : List Row} {R : NetReader} (T : NetTables above R) where
+  homes_other : (r : Row) → eqb r.group group_r ≡ false → R.homes ≡ pairs_of group_r (above ++ (r ∷ []))
   homes_other r e = T.homes_is ∙ sym (ap (gather 1024 pair_place (λ r. r.rights)) (group_other group_r above r e))
 
-  boxes_other : (r : Row) → eqb r.group group_d ≡ false → R.boxes ≡ put_boxes unsaid_boxes (of_group group_d (above ++ (r ∷ [])))
+  boxes_other : (r : Row) → eqb r.group group_d ≡ false → R.boxes ≡ boxes_of unsaid_boxes (above ++ (r ∷ []))
   boxes_other r e = T.boxes_is ∙ sym (ap (put_boxes unsaid_boxes) (group_other group_d above r e))
 
-  tuples_other : (r : Row) → eqb r.group group_t ≡ false → rows_view t.tuples R.tuples ≡ map (λ r. r.sites) (of_group group_t (above ++ (r ∷ [])))
+  tuples_other : (r : Row) → eqb r.group group_t ≡ false → tuples_of R.tuples ≡ map (λ r. r.sites) (of_group group_t (above ++ (r ∷ [])))
   tuples_other r e = T.tuples_is ∙ sym (map_other (λ r. r.sites) group_t above r e)
 
-  roots_other : (r : Row) → eqb r.group group_l ≡ false → roots_view t.roots R.roots ≡ map root_of (of_group group_l (above ++ (r ∷ [])))
+  roots_other : (r : Row) → eqb r.group group_l ≡ false → roots_of R.roots ≡ map root_of (of_group group_l (above ++ (r ∷ [])))
   roots_other r e = T.roots_is ∙ sym (map_other root_of group_l above r e)
 
-  lines_other : (r : Row) → eqb r.group group_q ≡ false → lines_view t.lines R.lines ≡ lines_of (above ++ (r ∷ []))
+  lines_other : (r : Row) → eqb r.group group_q ≡ false → View.lines_of R.lines ≡ lines_of (above ++ (r ∷ []))
   unfolding lines_of
   lines_other r e = T.lines_is ∙ sym (map_other (λ r. r.process) group_q above r e)
 
-  no_key : (r : Row) → (r.group ≡ group_t → ⊥) → KeysAre group_t (above ++ (r ∷ [])) R.keys t.tuples
+  no_key : (r : Row) → (r.group ≡ group_t → ⊥) → KeysAre group_t (above ++ (r ∷ [])) R.keys
   no_key r e = keys_other r e T.keys_are
 
-  tables_n : (n : ℕ) → NetTables (above ++ (row_data (Form.N n) ∷ [])) R (counted_of (Form.N n) t)
+  tables_n : (n : ℕ) → NetTables (above ++ (row_data (Form.N n) ∷ [])) R
   unfolding row_data size_data
   tables_n n = record {
     homes_is = homes_other (size_data n) refl;
@@ -91,7 +93,7 @@ module _ {above : List Row} {R : NetReader} {t : Tally} (T : NetTables above R t
     keys_are = no_key (size_data n) (λ e. omega arith);
   }
 
-  pub tables_r : (p : Pair) {new : List ℕ} {room : Room R.tally} → new ≡ gather 1024 pair_place (λ r. r.rights) (of_group group_r (above ++ (pair_data group_r p ∷ []))) → NetTables (above ++ (row_data (Form.R p) ∷ [])) (record R { homes = new; room = room }) (counted_of (Form.R p) t)
+  pub tables_r : (p : Pair) {new : List ℕ} {k : R.keys.count ≡ R.tuples.count} {z : R.tally.size ≤ site_limit} → new ≡ pairs_of group_r (above ++ (pair_data group_r p ∷ [])) → NetTables (above ++ (row_data (Form.R p) ∷ [])) (record R { homes = new; keyed = k; size_few = z })
   unfolding row_data pair_data
   tables_r p h = record {
     homes_is = h;
@@ -102,7 +104,7 @@ module _ {above : List Row} {R : NetReader} {t : Tally} (T : NetTables above R t
     keys_are = no_key (pair_data group_r p) (λ e. omega arith);
   }
 
-  pub tables_d : (b : Sandbox) {new : List ℕ} {room : Room R.tally} → new ≡ put_boxes unsaid_boxes (of_group group_d (above ++ (box_data b ∷ []))) → NetTables (above ++ (row_data (Form.D b) ∷ [])) (record R { boxes = new; room = room }) (counted_of (Form.D b) t)
+  pub tables_d : (b : Sandbox) {new : List ℕ} {k : R.keys.count ≡ R.tuples.count} {z : R.tally.size ≤ site_limit} → new ≡ boxes_of unsaid_boxes (above ++ (box_data b ∷ [])) → NetTables (above ++ (row_data (Form.D b) ∷ [])) (record R { boxes = new; keyed = k; size_few = z })
   unfolding row_data box_data
   tables_d b h = record {
     homes_is = homes_other (box_data b) refl;
@@ -113,7 +115,7 @@ module _ {above : List Row} {R : NetReader} {t : Tally} (T : NetTables above R t
     keys_are = no_key (box_data b) (λ e. omega arith);
   }
 
-  pub tables_t : (x : Tuple) {new keys : List ℕ} {room : Room R.tally} → rows_view (t.tuples + 1) new ≡ rows_view t.tuples R.tuples ++ (sites_of x ∷ []) → KeysAre group_t (above ++ (tuple_data group_t x ∷ [])) keys (t.tuples + 1) → NetTables (above ++ (row_data (Form.T x) ∷ [])) (record R { tuples = new; keys = keys; room = room }) (counted_of (Form.T x) t)
+  pub tables_t : (x : Tuple) {new : Tuples} {keys : Keys} {k : keys.count ≡ new.count} {z : R.tally.size ≤ site_limit} → tuples_of new ≡ tuples_of R.tuples ++ (sites_of x ∷ []) → KeysAre group_t (above ++ (tuple_data group_t x ∷ [])) keys → NetTables (above ++ (row_data (Form.T x) ∷ [])) (record R { tuples = new; keys = keys; keyed = k; size_few = z })
   unfolding row_data tuple_data
   tables_t x h K = record {
     homes_is = homes_other (tuple_data group_t x) refl;
@@ -124,7 +126,7 @@ module _ {above : List Row} {R : NetReader} {t : Tally} (T : NetTables above R t
     keys_are = K;
   }
 
-  pub tables_l : (x : Root) {new : List ℕ} {room : Room R.tally} → roots_view (t.roots + 1) new ≡ roots_view t.roots R.roots ++ (root_of (root_data x) ∷ []) → NetTables (above ++ (row_data (Form.L x) ∷ [])) (record R { roots = new; room = room }) (counted_of (Form.L x) t)
+  pub tables_l : (x : Root) {new : Roots} {k : R.keys.count ≡ R.tuples.count} {z : R.tally.size ≤ site_limit} → roots_of new ≡ roots_of R.roots ++ (root_of (root_data x) ∷ []) → NetTables (above ++ (row_data (Form.L x) ∷ [])) (record R { roots = new; keyed = k; size_few = z })
   unfolding row_data root_data
   tables_l x h = record {
     homes_is = homes_other (root_data x) refl;
@@ -135,7 +137,7 @@ module _ {above : List Row} {R : NetReader} {t : Tally} (T : NetTables above R t
     keys_are = no_key (root_data x) (λ e. omega arith);
   }
 
-  pub tables_q : (p : Process) {new : List ℕ} {room : Room R.tally} → lines_view (t.lines + 1) new ≡ lines_view t.lines R.lines ++ (line_view p.line ∷ []) → NetTables (above ++ (row_data (Form.Q p) ∷ [])) (record R { lines = new; room = room }) (counted_of (Form.Q p) t)
+  pub tables_q : (p : Process) {new : Lines} {k : R.keys.count ≡ R.tuples.count} {z : R.tally.size ≤ site_limit} → View.lines_of new ≡ View.lines_of R.lines ++ (line_view p.line ∷ []) → NetTables (above ++ (row_data (Form.Q p) ∷ [])) (record R { lines = new; keyed = k; size_few = z })
   unfolding row_data process_data row_line lines_of
   tables_q p h = record {
     homes_is = homes_other (process_data p) refl;
@@ -147,27 +149,21 @@ module _ {above : List Row} {R : NetReader} {t : Tally} (T : NetTables above R t
   }
 
   -- a row that is in no table is the N row
-  pub tables_rest : (row : FormRow) → placed_of (row_data row).group t ≡ true → ((p : Pair) → row ≡ Form.R p → ⊥) → ((b : Sandbox) → row ≡ Form.D b → ⊥) → ((x : Tuple) → row ≡ Form.T x → ⊥) → ((x : Root) → row ≡ Form.L x → ⊥) → ((p : Process) → row ≡ Form.Q p → ⊥) → NetTables (above ++ (row_data row ∷ [])) R (counted_of row t)
-  tables_rest (Form.N n) h r d u l q = tables_n n
-  tables_rest (Form.R p) h r d u l q = absurd (r p refl)
-  tables_rest (Form.D b) h r d u l q = absurd (d b refl)
-  tables_rest (Form.T x) h r d u l q = absurd (u x refl)
-  tables_rest (Form.L x) h r d u l q = absurd (l x refl)
-  tables_rest (Form.Q p) h r d u l q = absurd (q p refl)
-  tables_rest (Form.B b) h r d u l q = absurd (foreign_b b t h)
-  tables_rest (Form.A x) h r d u l q = absurd (foreign_a x t h)
-  tables_rest (Form.E p) h r d u l q = absurd (foreign_e p t h)
+  pub tables_rest : (row : FormRow) (t : Tally) → placed_of (row_data row).group t ≡ true → ((p : Pair) → row ≡ Form.R p → ⊥) → ((b : Sandbox) → row ≡ Form.D b → ⊥) → ((x : Tuple) → row ≡ Form.T x → ⊥) → ((x : Root) → row ≡ Form.L x → ⊥) → ((p : Process) → row ≡ Form.Q p → ⊥) → NetTables (above ++ (row_data row ∷ [])) R
+  tables_rest (Form.N n) t h r d u l q = tables_n n
+  tables_rest (Form.R p) t h r d u l q = absurd (r p refl)
+  tables_rest (Form.D b) t h r d u l q = absurd (d b refl)
+  tables_rest (Form.T x) t h r d u l q = absurd (u x refl)
+  tables_rest (Form.L x) t h r d u l q = absurd (l x refl)
+  tables_rest (Form.Q p) t h r d u l q = absurd (q p refl)
+  tables_rest (Form.B b) t h r d u l q = absurd (foreign_b b t h)
+  tables_rest (Form.A x) t h r d u l q = absurd (foreign_a x t h)
+  tables_rest (Form.E p) t h r d u l q = absurd (foreign_e p t h)
 
--- the tally beside the tables is that which counts their rows
-pub recounted : {above : List Row} {R : NetReader} {t u : Tally} → NetTables above R t → u ≡ t → {room : Room u} → NetTables above (record R { tally = u; room = room }) u
-recounted T e = record {
-  homes_is = T.homes_is;
-  boxes_is = T.boxes_is;
-  tuples_is = rw e T.tuples_is;
-  roots_is = rw e T.roots_is;
-  lines_is = rw e T.lines_is;
-  keys_are = rw e T.keys_are;
-}
+-- the same tables beside another tally
+pub recounted : {above : List Row} {R : NetReader} → NetTables above R → {t : Tally} {k : R.keys.count ≡ R.tuples.count} {z : t.size ≤ site_limit} →
+    NetTables above (record R { tally = t; keyed = k; size_few = z })
+recounted T = record { homes_is = T.homes_is; boxes_is = T.boxes_is; tuples_is = T.tuples_is; roots_is = T.roots_is; lines_is = T.lines_is; keys_are = T.keys_are }
 
 foreign : own a_net group_a ≡ false
 unfolding own
@@ -198,20 +194,23 @@ size_more (x ∷ above) r first g size s l z a b h =
     rw q z
 
 -- the counts are those of the tables
-module _ {above : List Row} {R : NetReader} {t : Tally} (T : NetTables above R t) where
-  count_t : length (of_group group_t above) ≡ t.tuples
-  unfolding rows_view
-  count_t = sym (length-map (of_group group_t above) (λ r. r.sites)) ∙ sym (ap length T.tuples_is) ∙ length_table t.tuples _
+module _ {above : List Row} {R : NetReader} (T : NetTables above R) where
+  count_t : length (of_group group_t above) ≡ R.tuples.count
+  unfolding tuples_of
+  count_t = sym (length-map (of_group group_t above) (λ r. r.sites)) ∙ sym (ap length T.tuples_is) ∙ length_table R.tuples.count _
 
-  count_l : length (of_group group_l above) ≡ t.roots
-  unfolding roots_view
-  count_l = sym (length-map (of_group group_l above) root_of) ∙ sym (ap length T.roots_is) ∙ length_table t.roots _
+  count_l : length (of_group group_l above) ≡ R.roots.count
+  unfolding roots_of
+  count_l = sym (length-map (of_group group_l above) root_of) ∙ sym (ap length T.roots_is) ∙ length_table R.roots.count _
 
-  count_q : length (of_group group_q above) ≡ t.lines
-  unfolding lines_view lines_of
-  count_q = sym (length-map (of_group group_q above) (λ r. r.process)) ∙ sym (ap length T.lines_is) ∙ length_table t.lines _
+  pub lines_many : length (lines_of above) ≡ R.lines.count
+  lines_many = sym (ap length T.lines_is) ∙ lines_long R.lines
 
--- 2, read off the tally
+  count_q : length (of_group group_q above) ≡ R.lines.count
+  unfolding lines_of
+  count_q = sym (length-map (of_group group_q above) (λ r. r.process)) ∙ lines_many
+
+-- 2, read off the tables
 full_by : (g k a b c : ℕ) → (g ≡ group_t → k ≡ a) → (g ≡ group_l → k ≡ b) → (g ≡ group_q → k ≡ c) → (g ≡ group_a → k ≡ 0) → full a_net g k ≡ cond (eqb g group_t) (leb tuple_limit a) (cond (eqb g group_l) (leb thread_limit b) (eqb g group_q & leb line_limit c))
 unfolding full present either ◌&◌
 full_by g k a b c t l q s = at_t (eqb g group_t) refl
@@ -232,28 +231,28 @@ full_by g k a b c t l q s = at_t (eqb g group_t) refl
     at_t true e = let h : g ≡ group_t = eqb_eq e in rw (h, t h) (or_false (leb tuple_limit a))
     at_t false e = at_l (eqb g group_l) refl
 
-module _ (r : Row) {t : Tally} {above : List Row} {R : NetReader} (T : NetTables above R t) (Y : NetTally above t) where
-  full_is : full a_net r.group (length (of_group r.group above)) ≡ full_of r.group t
+module _ (r : Row) {above : List Row} {R : NetReader} (T : NetTables above R) (Y : NetTally above R.tally) where
+  full_is : full a_net r.group (length (of_group r.group above)) ≡ full_of r.group R
   unfolding full_of
-  full_is = full_by r.group _ t.tuples t.roots t.lines
+  full_is = full_by r.group _ R.tuples.count R.roots.count R.lines.count
       (λ e. ap (λ (g : ℕ). length (of_group g above)) e ∙ count_t T)
       (λ e. ap (λ (g : ℕ). length (of_group g above)) e ∙ count_l T)
       (λ e. ap (λ (g : ℕ). length (of_group g above)) e ∙ count_q T)
       (λ e. ap (λ (g : ℕ). length (of_group g above)) e ∙ ap length (group_none a_net group_a above Y.owned foreign))
 
   -- 3, but for repeats
-  placed_is : headed a_net above r & own a_net r.group & in_order above r ≡ placed_of r.group t
+  placed_is : headed a_net above r & own a_net r.group & in_order above r ≡ placed_of r.group R.tally
   unfolding headed own placed_of
   placed_is = ap₂ (λ (b o : Bool). (imp b (eqb r.group group_n) & imp (eqb r.group group_n) b) & leb r.group group_q & o) Y.first (Y.order r)
 
   -- "Each row top down: 1, 2, 3, 4, 7."
-  pub judged_is : judge a_net above (some r) ≡ judged_by (judging_of (early_of r (full_of r.group t) (placed_of r.group t)) (repeated above r) (late_of t.size r)) r
+  pub judged_is : judge a_net above (some r) ≡ judged_by (judging_of (early_of r (full_of r.group R) (placed_of r.group R.tally)) (repeated above r) (late_of R.tally.size r)) r
   unfolding site_count
   judged_is =
       formed a_net above r
       ∙ ap (λ (x : Bool). judged_by (judging_of (early_of r x (headed a_net above r & own a_net r.group & in_order above r)) (repeated above r) (late_of (size_of above) r)) r) full_is
-      ∙ ap (λ (x : Bool). judged_by (judging_of (early_of r (full_of r.group t) x) (repeated above r) (late_of (size_of above) r)) r) placed_is
-      ∙ ap (λ (n : ℕ). judged_by (judging_of (early_of r (full_of r.group t) (placed_of r.group t)) (repeated above r) (late_of n r)) r) Y.size_is
+      ∙ ap (λ (x : Bool). judged_by (judging_of (early_of r (full_of r.group R) x) (repeated above r) (late_of (size_of above) r)) r) placed_is
+      ∙ ap (λ (n : ℕ). judged_by (judging_of (early_of r (full_of r.group R) (placed_of r.group R.tally)) (repeated above r) (late_of n r)) r) Y.size_is
 
 some_group : (row : FormRow) → eqb (row_data row).group 0 ≡ false
 unfolding row_data size_data pair_data box_data tuple_data root_data process_data bound_data row_line
@@ -268,17 +267,19 @@ some_group (Form.A x) = refl
 some_group (Form.E x) = refl
 
 -- a row that is let through, in the tally
-pub tally_more : (row : FormRow) {t : Tally} {above : List Row} → NetTally above t → Passed row t → NetTally (above ++ (row_data row ∷ [])) (counted_of row t)
+pub tally_more : (row : FormRow) {R : NetReader} {above : List Row} → NetTables above R → NetTally above R.tally → Passed row R → NetTally (above ++ (row_data row ∷ [])) (counted_of row R.lines.count R.tally)
 unfolding placed_of
-tally_more row {t} {above} Y P =
+tally_more row {R} {above} T Y P =
     let r = row_data row in
+    let t = R.tally in
+    let n = R.lines.count in
     record {
       kept = All-append Y.kept (more (as_kept row P.low) done);
       owned = All-append Y.owned (more (owns r.group (and_l _ _ (and_r _ _ P.placed))) done);
-      size_is = size_more above r _ r.group t.size r.size Y.first Y.size_is (and_l _ _ (and_l _ _ P.placed)) (and_r _ _ (and_l _ _ P.placed)) (λ e. refl) ∙ sym (counted_size row t);
-      order = λ x. last_snoc above (last_number t.last) r Y.order (and_r _ _ (and_r _ _ P.placed)) x ∙ ap (λ (g : ℕ). leb g x.group) (sym (counted_last row t));
-      turn = counted_turn above row t Y.turn;
-      first = some_above above r ∙ sym (ap (λ (g : ℕ). eqb g 0) (counted_last row t) ∙ some_group row);
+      size_is = size_more above r _ r.group t.size r.size Y.first Y.size_is (and_l _ _ (and_l _ _ P.placed)) (and_r _ _ (and_l _ _ P.placed)) (λ e. refl) ∙ sym (counted_size row n t);
+      order = λ x. last_snoc above (last_number t.last) r Y.order (and_r _ _ (and_r _ _ P.placed)) x ∙ ap (λ (g : ℕ). leb g x.group) (sym (counted_last row n t));
+      turn = counted_turn above row t Y.turn ∙ ap (λ (n : ℕ). (counted_of row n t).turn) (lines_many T);
+      first = some_above above r ∙ sym (ap (λ (g : ℕ). eqb g 0) (counted_last row n t) ∙ some_group row);
     }
 
 no_rows : (a : Bool) (f : Row → Bool) (xs : List Row) → empty xs ≡ true → a & any f xs ≡ false
@@ -301,41 +302,41 @@ seen_rest (Form.A x) {t} Y h r d u l = absurd (foreign_a x t h)
 seen_rest (Form.E p) {t} Y h r d u l = absurd (foreign_e p t h)
 
 -- there is room in the table of a group that is not full
-module _ (g : ℕ) (t : Tally) where
-  pub room_t : g ≡ group_t → full_of g t ≡ false → t.tuples < 256
+module _ (g : ℕ) (R : NetReader) where
+  pub room_t : g ≡ group_t → full_of g R ≡ false → R.tuples.count < 256
   unfolding full_of
-  room_t e f = nleb_lt tuple_limit t.tuples (rw e at f)
+  room_t e f = nleb_lt tuple_limit R.tuples.count (rw e at f)
 
-  pub room_l : g ≡ group_l → full_of g t ≡ false → t.roots < 64
+  pub room_l : g ≡ group_l → full_of g R ≡ false → R.roots.count < 64
   unfolding full_of
-  room_l e f = nleb_lt thread_limit t.roots (rw e at f)
+  room_l e f = nleb_lt thread_limit R.roots.count (rw e at f)
 
-  pub room_q : g ≡ group_q → full_of g t ≡ false → t.lines < 256
+  pub room_q : g ≡ group_q → full_of g R ≡ false → R.lines.count < 256
   unfolding full_of ◌&◌
-  room_q e f = nleb_lt line_limit t.lines (rw e at f)
+  room_q e f = nleb_lt line_limit R.lines.count (rw e at f)
 
--- the limits of the counts, with a row more
-pub room_more : (row : FormRow) (t : Tally) → Passed row t → Room t → Room (counted_of row t)
-unfolding row_data size_data tuple_data root_data process_data row_line
-room_more (Form.N n) t P R = let l = size_low n P.low in record { tuples_few = R.tuples_few; roots_few = R.roots_few; lines_few = R.lines_few; size_few = l.1 }
-room_more (Form.R p) t P R = record { tuples_few = R.tuples_few; roots_few = R.roots_few; lines_few = R.lines_few; size_few = R.size_few }
-room_more (Form.D b) t P R = record { tuples_few = R.tuples_few; roots_few = R.roots_few; lines_few = R.lines_few; size_few = R.size_few }
-room_more (Form.T x) t P R = let l : t.tuples < 256 = room_t group_t t refl P.room in record { tuples_few = omega arith; roots_few = R.roots_few; lines_few = R.lines_few; size_few = R.size_few }
-room_more (Form.L x) t P R = let l : t.roots < 64 = room_l group_l t refl P.room in record { tuples_few = R.tuples_few; roots_few = omega arith; lines_few = R.lines_few; size_few = R.size_few }
-room_more (Form.Q p) t P R = let l : t.lines < 256 = room_q group_q t refl P.room in record { tuples_few = R.tuples_few; roots_few = R.roots_few; lines_few = omega arith; size_few = R.size_few }
-room_more (Form.B b) t P R = record { tuples_few = R.tuples_few; roots_few = R.roots_few; lines_few = R.lines_few; size_few = R.size_few }
-room_more (Form.A x) t P R = absurd (foreign_a x t P.placed)
-room_more (Form.E p) t P R = record { tuples_few = R.tuples_few; roots_few = R.roots_few; lines_few = R.lines_few; size_few = R.size_few }
+-- the size, with a row more
+pub size_few : (row : FormRow) (n : ℕ) (t : Tally) → in_limits (row_data row) ≡ true → t.size ≤ site_limit → (counted_of row n t).size ≤ site_limit
+unfolding row_data
+size_few (Form.N k) n t L h = (size_low k L).1
+size_few (Form.R p) n t L h = h
+size_few (Form.D b) n t L h = h
+size_few (Form.T x) n t L h = h
+size_few (Form.L x) n t L h = h
+size_few (Form.Q p) n t L h = h
+size_few (Form.B b) n t L h = h
+size_few (Form.A x) n t L h = h
+size_few (Form.E p) n t L h = h
 
 -- a group that has no limit
-pub full_rest : (g : Group) (t : Tally) → (g ≡ Groups.T → ⊥) → (g ≡ Groups.L → ⊥) → (g ≡ Groups.Q → ⊥) → false ≡ full_of (group_number g) t
+pub full_rest : (g : Group) (R : NetReader) → (g ≡ Groups.T → ⊥) → (g ≡ Groups.L → ⊥) → (g ≡ Groups.Q → ⊥) → false ≡ full_of (group_number g) R
 unfolding full_of ◌&◌
-full_rest Groups.N t a b c = refl
-full_rest Groups.R t a b c = refl
-full_rest Groups.D t a b c = refl
-full_rest Groups.T t a b c = absurd (a refl)
-full_rest Groups.L t a b c = absurd (b refl)
-full_rest Groups.Q t a b c = absurd (c refl)
-full_rest Groups.B t a b c = refl
-full_rest Groups.A t a b c = refl
-full_rest Groups.E t a b c = refl
+full_rest Groups.N R a b c = refl
+full_rest Groups.R R a b c = refl
+full_rest Groups.D R a b c = refl
+full_rest Groups.T R a b c = absurd (a refl)
+full_rest Groups.L R a b c = absurd (b refl)
+full_rest Groups.Q R a b c = absurd (c refl)
+full_rest Groups.B R a b c = refl
+full_rest Groups.A R a b c = refl
+full_rest Groups.E R a b c = refl

@@ -10,18 +10,21 @@ ghost use Rattle.std.proofs.Math.Option.{some};
 ghost use Rattle.forms.specs.Forms.{group_number, row_data};
 ghost use Rattle.tables.specs.View.{net_view};
 ghost use Rattle.scan.specs.Reasons.{judged_by};
-ghost use Rattle.scan.specs.Tallies.{counted_of};
 ghost use Rattle.nets.specs.Rows.{NetTables, NetHolds, full_of, placed_of, Passed};
 ghost use Rattle.nets.specs.Defaults.{own_of, with_own, cleared};
 
 mod reading;
 
+use entries::{NO_LINE, NO_ROOT, NO_TUPLE};
 use forms::{Group, Row};
 use klaim::{Reason, Refusal};
 use reading::NetReader;
+use repeats::Keys;
 use scan::{Reader, Tally};
 use sets::EVERY;
-use tables::{BOX, BOXES, LINES, Lines, Net, OWN, Roots, SANDBOXES, THREADS, TUPLES, Tuples};
+use tables::{
+    BOX, BOXES, HOMES, LINES, Lines, Net, OWN, Roots, SANDBOXES, THREADS, TUPLES, Tuples,
+};
 use text::UNSAID;
 
 // Whether a group is that of the first row of a net, and whether it is one of a net's.
@@ -40,12 +43,12 @@ fn is_own(group: Group) -> bool
 impl NetReader {
     // Whether no row of this group may follow.
     fn is_full(&self, group: Group) -> bool
-        ensures { result ≡ full_of (group_number group) self.now.tally }
+        ensures { result ≡ full_of (group_number group) self.now }
     {
         match group {
-            Group::T => TUPLES <= self.tally.tuples,
-            Group::L => THREADS <= self.tally.roots,
-            Group::Q => LINES <= self.tally.lines,
+            Group::T => TUPLES <= self.tuples.count,
+            Group::L => THREADS <= self.roots.count,
+            Group::Q => LINES <= self.lines.count,
             _ => false,
         }
     }
@@ -67,8 +70,8 @@ impl NetReader {
         match row {
             Row::R(pair) => repeats::pair_seen(&self.homes, pair),
             Row::D(sandbox) => repeats::box_seen(&self.boxes, sandbox),
-            Row::T(tuple) => repeats::tuple_seen(&self.keys, self.tally.tuples, tuple),
-            Row::L(root) => repeats::root_seen(&self.roots, self.tally.roots, root),
+            Row::T(tuple) => repeats::tuple_seen(&self.keys, tuple),
+            Row::L(root) => repeats::root_seen(&self.roots, root),
             _ => false,
         }
     }
@@ -76,7 +79,7 @@ impl NetReader {
     // Whether the row is let through.
     fn admits(&self, row: &Row) -> Result<(), Reason>
         ensures judged { (above : List Spec.Row) → NetHolds a_net above self.now → judge a_net above (some (row_data row.now)) ≡ judged_by result (row_data row.now) }
-        ensures passed { OnOk result (Passed row.now self.now.tally) }
+        ensures passed { OnOk result (Passed row.now self.now) }
     {
         let group = row.group();
         scan::early(row, self.is_full(group), self.is_placed(group))?;
@@ -86,21 +89,21 @@ impl NetReader {
         scan::late(row, self.tally.size)
     }
 
-    // The row put into its table, and not counted yet.
+    // The row put into its table.
     fn put(&mut self, row: &Row)
-        requires { Passed row.now self.old.tally }
+        requires { Passed row.now self.old }
         ensures tally_same { self.new.tally ≡ self.old.tally }
-        ensures tables { (above : List Spec.Row) → NetTables above self.old self.old.tally → NetTables (above ++ (row_data row.now ∷ [])) self.new (counted_of row.now self.old.tally) }
+        ensures tables { (above : List Spec.Row) → NetTables above self.old → NetTables (above ++ (row_data row.now ∷ [])) self.new }
     {
         match row {
             Row::R(pair) => stores::put_pair(&mut self.homes, pair),
             Row::D(sandbox) => stores::put_box(&mut self.boxes, sandbox),
             Row::T(tuple) => {
-                stores::put_row(&mut self.tuples, self.tally.tuples, tuple);
-                repeats::keep_key(&mut self.keys, self.tally.tuples, tuple);
+                self.tuples.push(entries::tuple(tuple));
+                repeats::keep_key(&mut self.keys, tuple);
             }
-            Row::L(root) => stores::put_root(&mut self.roots, self.tally.roots, root),
-            Row::Q(process) => stores::put_process(&mut self.lines, self.tally.lines, process),
+            Row::L(root) => self.roots.push(entries::root(root)),
+            Row::Q(process) => self.lines.push(entries::line(process)),
             _ => {}
         }
     }
@@ -109,34 +112,22 @@ impl NetReader {
     fn finish(&self) -> Result<Net, Refusal>
         ensures { (rows : List Spec.Row) → NetHolds a_net rows self.now → answer_of net_view result ≡ whole_net rows }
     {
-        let tally = self.tally;
-        if tally.last.is_none() {
+        if self.tally.last.is_none() {
             return Err(Refusal {
                 why: Reason::Place,
                 row: 1,
             });
         }
-        let lines = Lines {
-            bytes: self.lines,
-            count: tally.lines,
-        };
-        let roots = Roots {
-            bytes: self.roots,
-            count: tally.roots,
-        };
-        whole::whole(tally.turn, &lines, &roots)?;
+        whole::whole(self.tally.turn, &self.lines, &self.roots)?;
         let mut boxes = self.boxes;
         fill_unsaid(&mut boxes);
         Ok(Net {
-            size: tally.size as u8,
+            size: self.tally.size as u8,
             homes: self.homes,
             boxes,
-            tuples: Tuples {
-                bytes: self.tuples,
-                count: tally.tuples,
-            },
-            roots,
-            lines,
+            tuples: self.tuples,
+            roots: self.roots,
+            lines: self.lines,
         })
     }
 }
@@ -146,8 +137,9 @@ impl Reader for NetReader {
 
     fn take(&mut self, row: &Row) -> Result<(), Reason> {
         self.admits(row)?;
+        let lines = self.lines.count;
         self.put(row);
-        self.tally.count(row);
+        self.tally.count(row, lines);
         Ok(())
     }
 }
@@ -193,12 +185,12 @@ pub fn read_net(s: &[u8]) -> Result<Net, Refusal>
 {
     // Made in its place: given by a function it is copied twice, and reading a short net misses its bar of speed.
     let mut reader = NetReader {
-        homes: [0; 1024],
-        boxes: [UNSAID; 1056],
-        tuples: [0; 1536],
-        keys: [0; 256],
-        roots: [0; 128],
-        lines: [0; 2560],
+        homes: [0; HOMES],
+        boxes: [UNSAID; BOXES],
+        tuples: Tuples::empty(NO_TUPLE),
+        keys: Keys::empty(0),
+        roots: Roots::empty(NO_ROOT),
+        lines: Lines::empty(NO_LINE),
         tally: Tally::start(0),
     };
     scan::read(&mut reader, s)?;

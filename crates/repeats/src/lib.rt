@@ -80,7 +80,8 @@ fn key(tuple: &Tuple) -> u32
 pub fn keep_key(keys: &mut Keys, tuple: &Tuple)
     requires sites_low { all (λ s. ltb s 32) (sites_of tuple.now) ≡ true }
     requires room { keys.old.count < 256 }
-    ensures { (g : ℕ) (above : List Row) → KeysAre g above keys.old → KeysAre g (above ++ (tuple_data g tuple.now ∷ [])) keys.new }
+    ensures count { keys.new.count ≡ keys.old.count + 1 }
+    ensures keys { (g : ℕ) (above : List Row) → KeysAre g above keys.old → KeysAre g (above ++ (tuple_data g tuple.now ∷ [])) keys.new }
 {
     keys.push(key(tuple));
 }

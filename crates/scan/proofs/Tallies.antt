@@ -1,20 +1,18 @@
 -- The tests on the rows above, read off a tally of them.
 -- Assumes nothing.
 use mathlib.Core.Path.{◌≡◌, refl, sym, ap, ◌∙◌}
-use mathlib.Core.Logic.{◌⊎◌, inl, inr}
 use mathlib.Core.Bool.{Bool, true, false, cond, not, ◌&&◌, false≢true}
-use mathlib.Core.List.{List, [], ◌∷◌, ◌++◌, map}
+use mathlib.Core.List.{List, [], ◌∷◌, ◌++◌}
 use Prim.Native.Nat.{ℕ, ◌+◌}
 use lib.Dec.{eqb, leb}
-use lib.ListN.{length}
+use lib.ListN.{length, length-append}
+use borrow.Author.Tests.{eq-eqb}
 use Rattle.sets.specs.Lists.{All, done, more, ◌&◌, only, keep, below, same, ◌⧺◌}
 use Rattle.sets.proofs.Lists.{eqb_eq, not_no, not_yes, and_true, and_false, and_assoc}
 use Rattle.sets.proofs.Runs.{below_snoc}
 use Rattle.klaim.specs.Rows.{Row, group_n, group_r, group_t, group_q, group_a, group_e, row_line}
-use Rattle.klaim.specs.Reader.{Text, of_group, own, nth, numbers_of}
+use Rattle.klaim.specs.Reader.{Text, of_group, own, nth, numbers_of, lines_of}
 use Rattle.klaim.proofs.Above.{map_other, map_own}
-use Rattle.forms.specs.declared.rows.Tuple.{Tuple}
-use Rattle.forms.specs.declared.rows.Root.{Root}
 use Rattle.forms.specs.declared.rows.Process.{Process}
 use Rattle.forms.specs.declared.rows.Row as Form
 use Rattle.forms.specs.declared.rows.Row.TheVariants.{N, R, D, T, L, Q, B, A, E}
@@ -47,15 +45,22 @@ same_snoc (a ∷ []) [] x y = and_false (eqb a y)
 same_snoc (a ∷ c ∷ xs) [] x y = and_false (eqb a y)
 same_snoc (a ∷ xs) (b ∷ ys) x y = ap (λ (t : Bool). eqb a b & t) (same_snoc xs ys x y) ∙ sym (and_assoc (eqb a b) (same xs ys) (eqb x y))
 
--- Q rows in turn, with one row more
-module _ (above : List Row) (r : Row) (n : ℕ) where
-  pub turn_own : r.group ≡ group_q → same (numbers_of (above ++ (r ∷ []))) (below (n + 1)) ≡ same (numbers_of above) (below n) & eqb (nth r.lines 0) n
-  unfolding numbers_of
-  turn_own e = rw (map_own (λ r. nth r.lines 0) group_q above r (rw e), below_snoc n) (same_snoc (map (λ r. nth r.lines 0) (of_group group_q above)) (below n) (nth r.lines 0) n)
+-- Q rows in turn, by the lines above
+abbrev pub in_turn : List Row → Bool
+in_turn above = same (numbers_of above) (below (length (lines_of above)))
 
-  pub turn_other : eqb r.group group_q ≡ false → same (numbers_of (above ++ (r ∷ []))) (below n) ≡ same (numbers_of above) (below n)
-  unfolding numbers_of
-  turn_other e = rw (map_other (λ r. nth r.lines 0) group_q above r e)
+module _ (above : List Row) (r : Row) where
+  turn_own : r.group ≡ group_q → in_turn (above ++ (r ∷ [])) ≡ in_turn above & eqb (nth r.lines 0) (length (lines_of above))
+  unfolding numbers_of lines_of
+  turn_own e =
+      let q = eq-eqb r.group group_q e in
+      let n = length (lines_of above) in
+      let many : length (lines_of (above ++ (r ∷ []))) ≡ n + 1 = ap length (map_own (λ r. r.process) group_q above r q) ∙ length-append (lines_of above) (r.process ∷ []) in
+      rw (many, map_own (λ r. nth r.lines 0) group_q above r q, below_snoc n) (same_snoc (numbers_of above) (below n) (nth r.lines 0) n)
+
+  turn_other : eqb r.group group_q ≡ false → in_turn (above ++ (r ∷ [])) ≡ in_turn above
+  unfolding numbers_of lines_of
+  turn_other e = rw (map_other (λ r. nth r.lines 0) group_q above r e, map_other (λ r. r.process) group_q above r e)
 
 -- no row of a foreign group stands above
 pub group_none : (t : Text) (g : ℕ) (above : List Row) → All (λ r. own t r.group ≡ true) above → own t g ≡ false → of_group g above ≡ []
@@ -77,57 +82,53 @@ none_full t g above O h limit o z = go (eqb g h) refl
     go false e = refl
 
 -- the tally with a row more
-pub counted_tuple : (r : Form.Row) (t : Tally) → ((x : Tuple) × (r ≡ T x)) ⊎ ((x : Tuple) × (r ≡ A x)) → record t { tuples = t.tuples + 1; last = Some (group_of r) } ≡ counted_of r t
-counted_tuple r t (inl e) = rw e.1 refl
-counted_tuple r t (inr e) = rw e.1 refl
-
-pub counted_other : (r : Form.Row) (t : Tally) → ((n : ℕ) → r ≡ N n → ⊥) → ((x : Tuple) → r ≡ T x → ⊥) → ((x : Root) → r ≡ L x → ⊥) → ((p : Process) → r ≡ Q p → ⊥) → ((x : Tuple) → r ≡ A x → ⊥) → record t { last = Some (group_of r) } ≡ counted_of r t
-counted_other (N n) t a b c d e = absurd (a n refl)
-counted_other (R p) t a b c d e = refl
-counted_other (D x) t a b c d e = refl
-counted_other (T x) t a b c d e = absurd (b x refl)
-counted_other (L x) t a b c d e = absurd (c x refl)
-counted_other (Q p) t a b c d e = absurd (d p refl)
-counted_other (B x) t a b c d e = refl
-counted_other (A x) t a b c d e = absurd (e x refl)
-counted_other (E p) t a b c d e = refl
+pub counted_other : (r : Form.Row) (n : ℕ) (t : Tally) → ((k : ℕ) → r ≡ N k → ⊥) → ((p : Process) → r ≡ Q p → ⊥) → record t { last = Some (group_of r) } ≡ counted_of r n t
+counted_other (N k) n t a b = absurd (a k refl)
+counted_other (R p) n t a b = refl
+counted_other (D x) n t a b = refl
+counted_other (T x) n t a b = refl
+counted_other (L x) n t a b = refl
+counted_other (Q p) n t a b = absurd (b p refl)
+counted_other (B x) n t a b = refl
+counted_other (A x) n t a b = refl
+counted_other (E p) n t a b = refl
 
 -- the size, the last group and the turn of a tally with a row more
-pub counted_size : (r : Form.Row) (t : Tally) → (counted_of r t).size ≡ cond (eqb (row_data r).group group_n) (row_data r).size t.size
+pub counted_size : (r : Form.Row) (n : ℕ) (t : Tally) → (counted_of r n t).size ≡ cond (eqb (row_data r).group group_n) (row_data r).size t.size
 unfolding row_data size_data pair_data box_data tuple_data root_data process_data bound_data row_line
-counted_size (N x) t = refl
-counted_size (R x) t = refl
-counted_size (D x) t = refl
-counted_size (T x) t = refl
-counted_size (L x) t = refl
-counted_size (Q x) t = refl
-counted_size (B x) t = refl
-counted_size (A x) t = refl
-counted_size (E x) t = refl
+counted_size (N x) n t = refl
+counted_size (R x) n t = refl
+counted_size (D x) n t = refl
+counted_size (T x) n t = refl
+counted_size (L x) n t = refl
+counted_size (Q x) n t = refl
+counted_size (B x) n t = refl
+counted_size (A x) n t = refl
+counted_size (E x) n t = refl
 
-pub counted_last : (r : Form.Row) (t : Tally) → last_number (counted_of r t).last ≡ (row_data r).group
+pub counted_last : (r : Form.Row) (n : ℕ) (t : Tally) → last_number (counted_of r n t).last ≡ (row_data r).group
 unfolding row_data size_data pair_data box_data tuple_data root_data process_data bound_data row_line
-counted_last (N x) t = refl
-counted_last (R x) t = refl
-counted_last (D x) t = refl
-counted_last (T x) t = refl
-counted_last (L x) t = refl
-counted_last (Q x) t = refl
-counted_last (B x) t = refl
-counted_last (A x) t = refl
-counted_last (E x) t = refl
+counted_last (N x) n t = refl
+counted_last (R x) n t = refl
+counted_last (D x) n t = refl
+counted_last (T x) n t = refl
+counted_last (L x) n t = refl
+counted_last (Q x) n t = refl
+counted_last (B x) n t = refl
+counted_last (A x) n t = refl
+counted_last (E x) n t = refl
 
-pub counted_turn : (above : List Row) (r : Form.Row) (t : Tally) → same (numbers_of above) (below t.lines) ≡ t.turn → same (numbers_of (above ++ (row_data r ∷ []))) (below (counted_of r t).lines) ≡ (counted_of r t).turn
+pub counted_turn : (above : List Row) (r : Form.Row) (t : Tally) → in_turn above ≡ t.turn → in_turn (above ++ (row_data r ∷ [])) ≡ (counted_of r (length (lines_of above)) t).turn
 unfolding row_data size_data pair_data box_data tuple_data root_data process_data bound_data row_line
-counted_turn above (N x) t e = turn_other above (size_data x) t.lines refl ∙ e
-counted_turn above (R x) t e = turn_other above (pair_data group_r x) t.lines refl ∙ e
-counted_turn above (D x) t e = turn_other above (box_data x) t.lines refl ∙ e
-counted_turn above (T x) t e = turn_other above (tuple_data group_t x) t.lines refl ∙ e
-counted_turn above (L x) t e = turn_other above (root_data x) t.lines refl ∙ e
-counted_turn above (Q x) t e = turn_own above (process_data x) t.lines refl ∙ ap (λ (b : Bool). b & eqb x.number t.lines) e
-counted_turn above (B x) t e = turn_other above (bound_data x) t.lines refl ∙ e
-counted_turn above (A x) t e = turn_other above (tuple_data group_a x) t.lines refl ∙ e
-counted_turn above (E x) t e = turn_other above (pair_data group_e x) t.lines refl ∙ e
+counted_turn above (N x) t e = turn_other above (size_data x) refl ∙ e
+counted_turn above (R x) t e = turn_other above (pair_data group_r x) refl ∙ e
+counted_turn above (D x) t e = turn_other above (box_data x) refl ∙ e
+counted_turn above (T x) t e = turn_other above (tuple_data group_t x) refl ∙ e
+counted_turn above (L x) t e = turn_other above (root_data x) refl ∙ e
+counted_turn above (Q x) t e = turn_own above (process_data x) refl ∙ ap (λ (b : Bool). b & eqb x.number (length (lines_of above))) e
+counted_turn above (B x) t e = turn_other above (bound_data x) refl ∙ e
+counted_turn above (A x) t e = turn_other above (tuple_data group_a x) refl ∙ e
+counted_turn above (E x) t e = turn_other above (pair_data group_e x) refl ∙ e
 
 -- whether a row stands above, by the last group
 pub no_last : (o : Option Group) (b : Bool) → is_some o ≡ not b → b ≡ eqb (last_number o) 0

@@ -1,6 +1,6 @@
 -- The tally of the rows above, with a row more.
 -- Assumes nothing.
-use Rattle.std.specs.Prelude.{true, ℕ, ◌+◌, eqb, Option, None, Some}
+use Rattle.std.specs.Prelude.{true, ℕ, eqb, Option, None, Some}
 use Rattle.sets.specs.Lists.{◌&◌}
 use Rattle.forms.specs.declared.rows.Group.{Group}
 use Rattle.forms.specs.declared.rows.Group.TheVariants as Groups
@@ -14,17 +14,18 @@ abbrev pub last_number : Option Group → ℕ
 last_number None = 0
 last_number (Some g) = group_number g
 
-abbrev pub counted_of : Row → Tally → Tally
-counted_of (N n) t = record t { size = n; last = Some Groups.N }
-counted_of (R p) t = record t { last = Some Groups.R }
-counted_of (D b) t = record t { last = Some Groups.D }
-counted_of (T x) t = record t { tuples = t.tuples + 1; last = Some Groups.T }
-counted_of (L r) t = record t { roots = t.roots + 1; last = Some Groups.L }
-counted_of (Q p) t = record t { lines = t.lines + 1; last = Some Groups.Q; turn = t.turn & eqb p.number t.lines }
-counted_of (B b) t = record t { last = Some Groups.B }
-counted_of (A x) t = record t { tuples = t.tuples + 1; last = Some Groups.A }
-counted_of (E p) t = record t { last = Some Groups.E }
+-- below n lines
+abbrev pub counted_of : Row → ℕ → Tally → Tally
+counted_of (N k) n t = record t { size = k; last = Some Groups.N }
+counted_of (R p) n t = record t { last = Some Groups.R }
+counted_of (D b) n t = record t { last = Some Groups.D }
+counted_of (T x) n t = record t { last = Some Groups.T }
+counted_of (L r) n t = record t { last = Some Groups.L }
+counted_of (Q p) n t = record t { last = Some Groups.Q; turn = t.turn & eqb p.number n }
+counted_of (B b) n t = record t { last = Some Groups.B }
+counted_of (A x) n t = record t { last = Some Groups.A }
+counted_of (E p) n t = record t { last = Some Groups.E }
 
 -- the tally of no rows, n given
 abbrev pub start_of : ℕ → Tally
-start_of n = record { size = n; tuples = 0; roots = 0; lines = 0; last = None; turn = true }
+start_of n = record { size = n; last = None; turn = true }

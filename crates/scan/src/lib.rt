@@ -15,14 +15,10 @@ ghost use Rattle.scan.specs.Tallies.{last_number, counted_of, start_of};
 use forms::{Group, Row};
 use klaim::{Reason, Refusal};
 
-// What is kept of the rows above: the n of the text, the tuples, roots and lines that stand in its tables, the last group, and
-// whether Q rows are numbered in turn.
+// What is kept of the rows above, besides the tables: the n of the text, the last group, and whether Q rows are numbered in turn.
 #[derive(Clone, Copy)]
 pub struct Tally {
     pub size: u16,
-    pub tuples: usize,
-    pub roots: usize,
-    pub lines: usize,
     pub last: Option<Group>,
     pub turn: bool,
 }
@@ -34,9 +30,6 @@ impl Tally {
     {
         Tally {
             size: u16::from(n),
-            tuples: 0,
-            roots: 0,
-            lines: 0,
             last: None,
             turn: true,
         }
@@ -52,20 +45,14 @@ impl Tally {
         }
     }
 
-    // A row let through is counted.
-    pub fn count(&mut self, row: &Row)
-        requires { (self.old.tuples < 1000) × (self.old.roots < 1000) × (self.old.lines < 1000) }
-        ensures { self.new ≡ counted_of row.now self.old }
+    // A row let through is counted, below the lines that stand above.
+    pub fn count(&mut self, row: &Row, lines: usize)
+        ensures { self.new ≡ counted_of row.now lines self.old }
     {
         self.last = Some(row.group());
         match row {
             Row::N(n) => self.size = *n,
-            Row::T(_) | Row::A(_) => self.tuples += 1,
-            Row::L(_) => self.roots += 1,
-            Row::Q(process) => {
-                self.turn = self.turn && usize::from(process.number) == self.lines;
-                self.lines += 1;
-            }
+            Row::Q(process) => self.turn &= usize::from(process.number) == lines,
             _ => {}
         }
     }

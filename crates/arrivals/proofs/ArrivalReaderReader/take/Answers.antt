@@ -1,15 +1,11 @@
 use mathlib.Core.Path.{sym, ap, ◌∙◌}
 use Rattle.klaim.specs.Reader.{an_arrival}
 use Rattle.scan.specs.Tallies.{counted_of}
-use Rattle.arrivals.proofs.Rows.{room_more}
 use Rattle.arrivals.proofs.ArrivalReaderReader.take.Goals as goal
-
-pub invariant_of-self : goal.invariant_of-self
-invariant_of-self c = record { room = rw (c.count.ensures, c.put.ensures.same.0, c.put.ensures.same.1) (room_more _ _ _ c.in_ok-admits.ensures.passed c.args.self.now.room) }
 
 pub returns : goal.returns
 returns c = λ t above H.
-    let e = c.count.ensures ∙ ap (counted_of c.args.row.now) c.put.ensures.same.0 in (
+    let e = c.count.ensures ∙ ap (counted_of c.args.row.now c.args.self.now.lines.count) c.put.ensures.same.0 in (
       c.in_ok-admits.ensures.judged t above H,
       record {
         n = H.n;

@@ -1,16 +1,20 @@
+use native.Mathlib.Omega.{arith}
 use Rattle.forms.specs.Forms.{row_data}
+use Rattle.entries.proofs.Pushed.{line_pushed}
 use Rattle.arrivals.proofs.Rows.{only_lines, room, tally_more}
 use Rattle.arrivals.proofs.reading.ArrivalReader.put.Goals as goal
 
-pub put_process-requires-clause-low : goal.put_process-requires-clause-low
+pub line-requires : goal.line-requires
 unfolding row_data
-put_process-requires-clause-low c = rw c.in-Q.is at c.requires.low
+line-requires c = rw c.in-Q.is at c.requires.low
 
-pub put_process-requires-clause-q_bound : goal.put_process-requires-clause-q_bound
-put_process-requires-clause-q_bound c = room _ _ _ c.requires.placed c.requires.room
+pub push-requires : goal.push-requires
+push-requires c = (omega arith, room _ _ c.requires.placed c.requires.room)
 
 pub returns-in-Q-clause-counts : goal.returns-in-Q-clause-counts
-returns-in-Q-clause-counts c = λ n above Y. rw c.in-Q.is (tally_more n _ above c.in-Q.process _ Y c.put_process.ensures)
+returns-in-Q-clause-counts c = λ n above Y.
+    let h = line_pushed _ _ _ (room _ _ c.requires.placed c.requires.room) c.push.ensures.items c.push.ensures.count c.line.ensures in
+    rw c.in-Q.is (tally_more n _ above c.in-Q.process _ Y h)
 
 pub returns-in_default : goal.returns-in_default
 returns-in_default c = absurd (only_lines _ c.requires.placed c.in_default.not-Q)

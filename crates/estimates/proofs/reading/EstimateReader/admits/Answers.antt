@@ -14,42 +14,42 @@ use Rattle.estimates.proofs.reading.EstimateReader.admits.Goals as goal
 pub returns-in_err-early-clause-judged : goal.returns-in_err-early-clause-judged
 returns-in_err-early-clause-judged c = λ t above H.
     let r = row_data c.args.row.now in
-    let y = c.args.self.now.tally in
+    let y = c.args.self.now in
     let q = ap group_number c.group-group.ensures ∙ sym (group_is c.args.row.now) in
-    let e = sym (c.early.ensures ∙ ap₂ (early_of r) (c.is_full.ensures ∙ ap (λ (g : ℕ). full_of g y) q) (c.is_placed.ensures ∙ ap (λ (g : ℕ). placed_of g y) q)) ∙ c.in_err-early.was in
+    let e = sym (c.early.ensures ∙ ap₂ (early_of r) (c.is_full.ensures ∙ ap (λ (g : ℕ). full_of g y) q) (c.is_placed.ensures ∙ ap (λ (g : ℕ). placed_of g y.tally) q)) ∙ c.in_err-early.was in
     let p = err_from_is_err_and c.from_residual.result c.from_residual.ensures.1 in
-    rw (p.1, p.2, H.text) (judged_is H.n above y H.counts r H.tables ∙ ap (λ (j : Judging). judged_by (judging_of j (repeated above r) (late_of y.size r)) r) e)
+    rw (p.1, p.2, H.text) (judged_is H.n above y H.counts r H.tables ∙ ap (λ (j : Judging). judged_by (judging_of j (repeated above r) (late_of y.tally.size r)) r) e)
 
 pub is_seen-requires : goal.is_seen-requires
 is_seen-requires c =
     let r = row_data c.args.row.now in
-    let y = c.args.self.now.tally in
+    let y = c.args.self.now in
     let q = ap group_number c.group-group.ensures ∙ sym (group_is c.args.row.now) in
-    let e = sym (c.early.ensures ∙ ap₂ (early_of r) (c.is_full.ensures ∙ ap (λ (g : ℕ). full_of g y) q) (c.is_placed.ensures ∙ ap (λ (g : ℕ). placed_of g y) q)) ∙ c.in_ok-early.was in
+    let e = sym (c.early.ensures ∙ ap₂ (early_of r) (c.is_full.ensures ∙ ap (λ (g : ℕ). full_of g y) q) (c.is_placed.ensures ∙ ap (λ (g : ℕ). placed_of g y.tally) q)) ∙ c.in_ok-early.was in
     let E = early_passed r e in
     record { low = E.0; placed = E.2 }
 
 pub returns-then-is_seen-clause-judged : goal.returns-then-is_seen-clause-judged
 returns-then-is_seen-clause-judged c = λ t above H.
     let r = row_data c.args.row.now in
-    let y = c.args.self.now.tally in
+    let y = c.args.self.now in
     let q = ap group_number c.group-group.ensures ∙ sym (group_is c.args.row.now) in
-    let e = sym (c.early.ensures ∙ ap₂ (early_of r) (c.is_full.ensures ∙ ap (λ (g : ℕ). full_of g y) q) (c.is_placed.ensures ∙ ap (λ (g : ℕ). placed_of g y) q)) ∙ c.in_ok-early.was in
-    rw H.text (judged_is H.n above y H.counts r H.tables ∙ ap₂ (λ (j : Judging) (b : Bool). judged_by (judging_of j b (late_of y.size r)) r) e (sym (c.is_seen.ensures t above H) ∙ c.if-is_seen.true))
+    let e = sym (c.early.ensures ∙ ap₂ (early_of r) (c.is_full.ensures ∙ ap (λ (g : ℕ). full_of g y) q) (c.is_placed.ensures ∙ ap (λ (g : ℕ). placed_of g y.tally) q)) ∙ c.in_ok-early.was in
+    rw H.text (judged_is H.n above y H.counts r H.tables ∙ ap₂ (λ (j : Judging) (b : Bool). judged_by (judging_of j b (late_of y.tally.size r)) r) e (sym (c.is_seen.ensures t above H) ∙ c.if-is_seen.true))
 
 pub returns-clause-judged : goal.returns-clause-judged
 returns-clause-judged c = λ t above H.
     let r = row_data c.args.row.now in
-    let y = c.args.self.now.tally in
+    let y = c.args.self.now in
     let q = ap group_number c.group-group.ensures ∙ sym (group_is c.args.row.now) in
-    let e = sym (c.early.ensures ∙ ap₂ (early_of r) (c.is_full.ensures ∙ ap (λ (g : ℕ). full_of g y) q) (c.is_placed.ensures ∙ ap (λ (g : ℕ). placed_of g y) q)) ∙ c.in_ok-early.was in
-    rw H.text (judged_is H.n above y H.counts r H.tables ∙ ap₂ (λ (j : Judging) (b : Bool). judged_by (judging_of j b (late_of y.size r)) r) e (sym (c.is_seen.ensures t above H) ∙ c.if-is_seen.false) ∙ ap (λ (j : Judging). judged_by j r) (sym c.late.ensures))
+    let e = sym (c.early.ensures ∙ ap₂ (early_of r) (c.is_full.ensures ∙ ap (λ (g : ℕ). full_of g y) q) (c.is_placed.ensures ∙ ap (λ (g : ℕ). placed_of g y.tally) q)) ∙ c.in_ok-early.was in
+    rw H.text (judged_is H.n above y H.counts r H.tables ∙ ap₂ (λ (j : Judging) (b : Bool). judged_by (judging_of j b (late_of y.tally.size r)) r) e (sym (c.is_seen.ensures t above H) ∙ c.if-is_seen.false) ∙ ap (λ (j : Judging). judged_by j r) (sym c.late.ensures))
 
 pub returns-clause-passed : goal.returns-clause-passed
 returns-clause-passed c =
     let r = row_data c.args.row.now in
-    let y = c.args.self.now.tally in
+    let y = c.args.self.now in
     let q = ap group_number c.group-group.ensures ∙ sym (group_is c.args.row.now) in
-    let e = sym (c.early.ensures ∙ ap₂ (early_of r) (c.is_full.ensures ∙ ap (λ (g : ℕ). full_of g y) q) (c.is_placed.ensures ∙ ap (λ (g : ℕ). placed_of g y) q)) ∙ c.in_ok-early.was in
+    let e = sym (c.early.ensures ∙ ap₂ (early_of r) (c.is_full.ensures ∙ ap (λ (g : ℕ). full_of g y) q) (c.is_placed.ensures ∙ ap (λ (g : ℕ). placed_of g y.tally) q)) ∙ c.in_ok-early.was in
     let E = early_passed r e in
     if_ok c.late.result (record { low = E.0; room = E.1; placed = E.2 })

@@ -10,9 +10,9 @@ pub bound_seen-requires : goal.bound_seen-requires
 unfolding row_data
 bound_seen-requires c = let l = bound_low _ (rw c.in-B.is at c.requires.low) in record { variable_low = l.0; site_low = l.1 }
 
-pub tuple_seen-requires-clause-sites_low : goal.tuple_seen-requires-clause-sites_low
+pub tuple_seen-requires : goal.tuple_seen-requires
 unfolding row_data
-tuple_seen-requires-clause-sites_low c = tuple_low group_a _ (rw c.in-A.is at c.requires.low)
+tuple_seen-requires c = tuple_low group_a _ (rw c.in-A.is at c.requires.low)
 
 pub pair_seen-requires : goal.pair_seen-requires
 unfolding row_data

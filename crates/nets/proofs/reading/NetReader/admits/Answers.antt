@@ -14,42 +14,42 @@ use Rattle.nets.proofs.reading.NetReader.admits.Goals as goal
 pub returns-in_err-early-clause-judged : goal.returns-in_err-early-clause-judged
 returns-in_err-early-clause-judged c = λ above H.
     let r = row_data c.args.row.now in
-    let t = c.args.self.now.tally in
+    let R = c.args.self.now in
     let q = ap group_number c.group-group.ensures ∙ sym (group_is c.args.row.now) in
-    let e = sym (c.early.ensures ∙ ap₂ (early_of r) (c.is_full.ensures ∙ ap (λ (g : ℕ). full_of g t) q) (c.is_placed.ensures ∙ ap (λ (g : ℕ). placed_of g t) q)) ∙ c.in_err-early.was in
+    let e = sym (c.early.ensures ∙ ap₂ (early_of r) (c.is_full.ensures ∙ ap (λ (g : ℕ). full_of g R) q) (c.is_placed.ensures ∙ ap (λ (g : ℕ). placed_of g R.tally) q)) ∙ c.in_err-early.was in
     let p = err_from_is_err_and c.from_residual.result c.from_residual.ensures.1 in
-    rw (p.1, p.2) (judged_is r H.tables H.counts ∙ ap (λ (j : Judging). judged_by (judging_of j (repeated above r) (late_of t.size r)) r) e)
+    rw (p.1, p.2) (judged_is r H.tables H.counts ∙ ap (λ (j : Judging). judged_by (judging_of j (repeated above r) (late_of R.tally.size r)) r) e)
 
 pub is_seen-requires : goal.is_seen-requires
 is_seen-requires c =
     let r = row_data c.args.row.now in
-    let t = c.args.self.now.tally in
+    let R = c.args.self.now in
     let q = ap group_number c.group-group.ensures ∙ sym (group_is c.args.row.now) in
-    let e = sym (c.early.ensures ∙ ap₂ (early_of r) (c.is_full.ensures ∙ ap (λ (g : ℕ). full_of g t) q) (c.is_placed.ensures ∙ ap (λ (g : ℕ). placed_of g t) q)) ∙ c.in_ok-early.was in
+    let e = sym (c.early.ensures ∙ ap₂ (early_of r) (c.is_full.ensures ∙ ap (λ (g : ℕ). full_of g R) q) (c.is_placed.ensures ∙ ap (λ (g : ℕ). placed_of g R.tally) q)) ∙ c.in_ok-early.was in
     let E = early_passed r e in
     record { low = E.0; placed = E.2 }
 
 pub returns-then-is_seen-clause-judged : goal.returns-then-is_seen-clause-judged
 returns-then-is_seen-clause-judged c = λ above H.
     let r = row_data c.args.row.now in
-    let t = c.args.self.now.tally in
+    let R = c.args.self.now in
     let q = ap group_number c.group-group.ensures ∙ sym (group_is c.args.row.now) in
-    let e = sym (c.early.ensures ∙ ap₂ (early_of r) (c.is_full.ensures ∙ ap (λ (g : ℕ). full_of g t) q) (c.is_placed.ensures ∙ ap (λ (g : ℕ). placed_of g t) q)) ∙ c.in_ok-early.was in
-    judged_is r H.tables H.counts ∙ ap₂ (λ (j : Judging) (b : Bool). judged_by (judging_of j b (late_of t.size r)) r) e (sym (c.is_seen.ensures above H) ∙ c.if-is_seen.true)
+    let e = sym (c.early.ensures ∙ ap₂ (early_of r) (c.is_full.ensures ∙ ap (λ (g : ℕ). full_of g R) q) (c.is_placed.ensures ∙ ap (λ (g : ℕ). placed_of g R.tally) q)) ∙ c.in_ok-early.was in
+    judged_is r H.tables H.counts ∙ ap₂ (λ (j : Judging) (b : Bool). judged_by (judging_of j b (late_of R.tally.size r)) r) e (sym (c.is_seen.ensures above H) ∙ c.if-is_seen.true)
 
 pub returns-clause-judged : goal.returns-clause-judged
 returns-clause-judged c = λ above H.
     let r = row_data c.args.row.now in
-    let t = c.args.self.now.tally in
+    let R = c.args.self.now in
     let q = ap group_number c.group-group.ensures ∙ sym (group_is c.args.row.now) in
-    let e = sym (c.early.ensures ∙ ap₂ (early_of r) (c.is_full.ensures ∙ ap (λ (g : ℕ). full_of g t) q) (c.is_placed.ensures ∙ ap (λ (g : ℕ). placed_of g t) q)) ∙ c.in_ok-early.was in
-    judged_is r H.tables H.counts ∙ ap₂ (λ (j : Judging) (b : Bool). judged_by (judging_of j b (late_of t.size r)) r) e (sym (c.is_seen.ensures above H) ∙ c.if-is_seen.false) ∙ ap (λ (j : Judging). judged_by j r) (sym c.late.ensures)
+    let e = sym (c.early.ensures ∙ ap₂ (early_of r) (c.is_full.ensures ∙ ap (λ (g : ℕ). full_of g R) q) (c.is_placed.ensures ∙ ap (λ (g : ℕ). placed_of g R.tally) q)) ∙ c.in_ok-early.was in
+    judged_is r H.tables H.counts ∙ ap₂ (λ (j : Judging) (b : Bool). judged_by (judging_of j b (late_of R.tally.size r)) r) e (sym (c.is_seen.ensures above H) ∙ c.if-is_seen.false) ∙ ap (λ (j : Judging). judged_by j r) (sym c.late.ensures)
 
 pub returns-clause-passed : goal.returns-clause-passed
 returns-clause-passed c =
     let r = row_data c.args.row.now in
-    let t = c.args.self.now.tally in
+    let R = c.args.self.now in
     let q = ap group_number c.group-group.ensures ∙ sym (group_is c.args.row.now) in
-    let e = sym (c.early.ensures ∙ ap₂ (early_of r) (c.is_full.ensures ∙ ap (λ (g : ℕ). full_of g t) q) (c.is_placed.ensures ∙ ap (λ (g : ℕ). placed_of g t) q)) ∙ c.in_ok-early.was in
+    let e = sym (c.early.ensures ∙ ap₂ (early_of r) (c.is_full.ensures ∙ ap (λ (g : ℕ). full_of g R) q) (c.is_placed.ensures ∙ ap (λ (g : ℕ). placed_of g R.tally) q)) ∙ c.in_ok-early.was in
     let E = early_passed r e in
     if_ok c.late.result (record { low = E.0; room = E.1; placed = E.2 })

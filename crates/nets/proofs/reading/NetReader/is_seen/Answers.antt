@@ -14,9 +14,9 @@ pub box_seen-requires : goal.box_seen-requires
 unfolding row_data
 box_seen-requires c = rw c.in-D.is at c.requires.low
 
-pub tuple_seen-requires-clause-sites_low : goal.tuple_seen-requires-clause-sites_low
+pub tuple_seen-requires : goal.tuple_seen-requires
 unfolding row_data
-tuple_seen-requires-clause-sites_low c = tuple_low group_t _ (rw c.in-T.is at c.requires.low)
+tuple_seen-requires c = tuple_low group_t _ (rw c.in-T.is at c.requires.low)
 
 pub root_seen-requires-clause-site_low : goal.root_seen-requires-clause-site_low
 unfolding row_data
