@@ -19,14 +19,12 @@ use Rattle.klaim.specs.Listing.{usable}
 
 -- a root at site s or elsewhere
 module _ (N : Net) (E : Estimate) (root : Root) (s : ℕ) where
-  abbrev uses_here : ℕ → ℕ
-  uses_here t = grant (eqb root.site s) (uses N E (place_set s) (process N root) t)
-
-  pub root_here : {P : ℕ} → P ≡ 2 ^ s → root.site ≡ s → table 32 (uses N E P (tree N.lines root.line)) ≡ table 32 uses_here
+  pub root_here : {P : ℕ} → P ≡ 2 ^ s → root.site ≡ s
+      → table 32 (uses N E P (tree N.lines root.line)) ≡ table 32 (λ t. grant (eqb root.site s) (uses N E (place_set s) (process N root) t))
   unfolding place_set grant
   root_here p h = rw (p, eq-eqb root.site s h) refl
 
-  pub root_away : (root.site ≡ s → ⊥) → table 32 (λ t. 0) ≡ table 32 uses_here
+  pub root_away : (root.site ≡ s → ⊥) → table 32 (λ t. 0) ≡ table 32 (λ t. grant (eqb root.site s) (uses N E (place_set s) (process N root) t))
   unfolding grant
   root_away h = ap (λ (b : Bool). table 32 (λ t. grant b (uses N E (place_set s) (process N root) t))) (sym (ne_eqb root.site s h))
 
