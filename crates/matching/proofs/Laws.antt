@@ -129,7 +129,8 @@ all_nth {P = P} {xs = y ∷ ys} (more p h) zero l e = subst P (sym e) p
 all_nth {xs = y ∷ ys} (more p h) (suc k) l e = all_nth h k (omega arith) e
 
 -- one more set is stored
-pub sets_more : {A : Type 0} (f : A → ℕ) (v : ℕ) (xs : List A) (r : List ℕ) (j y : ℕ) {x : A} → length r ≡ 5 → j < 4 → j < length xs → x ≡ get_or xs j x → take (j + 1) r ≡ v ∷ map f (take j xs) → y ≡ f x → take (j + 1 + 1) (set r (j + 1) y) ≡ v ∷ map f (take (j + 1) xs)
+pub sets_more : {A : Type 0} (f : A → ℕ) (v : ℕ) (xs : List A) (r : List ℕ) (j y : ℕ) {x : A}
+    → length r ≡ 5 → j < 4 → j < length xs → x ≡ get_or xs j x → take (j + 1) r ≡ v ∷ map f (take j xs) → y ≡ f x → take (j + 1 + 1) (set r (j + 1) y) ≡ v ∷ map f (take (j + 1) xs)
 sets_more f v xs r j y {x} five low here at e w =
     ap (λ (n : ℕ). take n (set r (j + 1) y)) (add-one (j + 1))
     ∙ take-suc-set r (j + 1) y (omega arith)
@@ -145,4 +146,7 @@ module _ (t : Tuples) {xs : List Tuple} (e : xs ≡ take t.count t.items) where
   unfolding row_at
   row_read i d h =
       let here : i < t.count = omega (arith, rows_long) in
-      ap tuple_view (ap (λ (ys : List Tuple). get_or ys i d) e ∙ get_or-take t.count t.items i d here ∙ get_or_default t.items i d no_tuple (omega (arith, t.few, t.long)))
+      ap tuple_view
+      (ap (λ (ys : List Tuple). get_or ys i d) e
+      ∙ get_or-take t.count t.items i d here
+      ∙ get_or_default t.items i d no_tuple (omega (arith, t.few, t.long)))

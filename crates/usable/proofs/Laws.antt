@@ -19,7 +19,8 @@ use Rattle.klaim.specs.Listing.{usable}
 
 -- a root at site s or elsewhere
 module _ (N : Net) (E : Estimate) (root : Root) (s : ℕ) where
-  pub root_here : {P : ℕ} → P ≡ 2 ^ s → root.site ≡ s → table 32 (uses N E P (tree N.lines root.line)) ≡ table 32 (λ t. grant (eqb root.site s) (uses N E (place_set s) (process N root) t))
+  pub root_here : {P : ℕ} → P ≡ 2 ^ s → root.site ≡ s
+      → table 32 (uses N E P (tree N.lines root.line)) ≡ table 32 (λ t. grant (eqb root.site s) (uses N E (place_set s) (process N root) t))
   unfolding place_set grant
   root_here p h = rw (p, eq-eqb root.site s h) refl
 

@@ -44,12 +44,17 @@ module _ {A : Type 0} (f : A → Bool) where
     table_none i h e = sym (first_none (table n g) (g 0) (λ k q. let l : k < n = omega (arith, length_table n g) in ap f (get_or_table n g k (g 0) l) ∙ h k (omega arith)))
 
 -- the least over one root more
-pub least_more : {A : Type 0} (F : A → List ℕ) (n : ℕ) (g : ℕ → A) {x : A} → x ≡ g n → lesser_of (least (concat F (table n g))) (least (F x)) ≡ least (concat F (table (n + 1) g))
+pub least_more : {A : Type 0} (F : A → List ℕ) (n : ℕ) (g : ℕ → A) {x : A} → x ≡ g n
+    → lesser_of (least (concat F (table n g))) (least (F x)) ≡ least (concat F (table (n + 1) g))
 unfolding concat
-least_more {A} F n g {x} e =
-    sym (least_both (concat F (table n g)) (F x))
-    ∙ ap least (ap (λ (y : A). concat F (table n g) ⧺ F y) e
-    ∙ sym (ap (λ (k : ℕ). concat F (table k g)) (add-one n) ∙ ap (concat F) (table_snoc n g) ∙ concat_append F (table n g) (g n ∷ []) ∙ ap (λ (ys : List ℕ). concat F (table n g) ⧺ ys) (concat_one F (g n))))
+least_more {A} F n g {x} e = sym (least_both (concat F (table n g)) (F x)) ∙ ap least (ap (λ (y : A). concat F (table n g) ⧺ F y) e ∙ sym more)
+  where
+    more : concat F (table (n + 1) g) ≡ concat F (table n g) ⧺ F (g n)
+    more =
+        ap (λ (k : ℕ). concat F (table k g)) (add-one n)
+        ∙ ap (concat F) (table_snoc n g)
+        ∙ concat_append F (table n g) (g n ∷ [])
+        ∙ ap (λ (ys : List ℕ). concat F (table n g) ⧺ ys) (concat_one F (g n))
 
 -- a tuple has a row
 pub row_stands : {E : Estimate} {index : List ℕ} (w : IndexOf E index) (t : List ℕ) {b : Bool} → b ≡ any (same t) (tuples_of w.rows) → b ≡ stands E t

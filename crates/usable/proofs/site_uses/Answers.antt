@@ -17,7 +17,9 @@ unfolding joins table table_from
 loop-root-init c = c.empty-joined.ensures
 
 pub root_uses-requires : goal.root_uses-requires
-root_uses-requires c = ((root_fits c.args.net.now.roots c.as_slice-root-items.ensures c.requires.0 c.loop-root.root-index c.loop-root-test.true).1, c.requires.1)
+root_uses-requires c =
+    let k = root_fits c.args.net.now.roots c.as_slice-root-items.ensures c.requires.0 c.loop-root.root-index c.loop-root-test.true in
+    (k.1, c.requires.1)
 
 pub loop-root-preserved : goal.loop-root-preserved
 loop-root-preserved c =
@@ -35,5 +37,7 @@ pub returns : goal.returns
 unfolding roots_of
 returns c =
     let rs = c.args.net.now.roots in
+    let N = net_view c.args.net.now in
+    let E = estimate_view c.args.estimate.now in
     let e : c.loop-root.root-index ≡ rs.count = omega (arith, roots_long rs c.as_slice-root-items.ensures) in
-    c.loop-root.invariant ∙ ap (λ (k : ℕ). table 32 (λ t. joins (part (net_view c.args.net.now) (estimate_view c.args.estimate.now) c.args.s t) (table k (root_at rs)))) e
+    c.loop-root.invariant ∙ ap (λ (k : ℕ). table 32 (λ t. joins (part N E c.args.s t) (table k (root_at rs)))) e

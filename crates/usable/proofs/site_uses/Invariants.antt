@@ -14,4 +14,5 @@ abbrev pub part : Net → Estimate → ℕ → ℕ → Root → ℕ
 part N E s t x = grant (eqb x.site s) (uses N E (place_set s) (process N x) t)
 
 abbrev pub invariant-loop-root : goal.invariant-loop-root
-invariant-loop-root l = l.joined.rights ≡ table 32 (λ t. joins (part (net_view l.net) (estimate_view l.estimate) l.s t) (table l.root-index (root_at l.net.roots)))
+invariant-loop-root l =
+    l.joined.rights ≡ table 32 (λ t. joins (part (net_view l.net) (estimate_view l.estimate) l.s t) (table l.root-index (root_at l.net.roots)))

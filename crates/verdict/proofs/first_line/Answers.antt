@@ -34,7 +34,8 @@ loop-root-preserved c =
     let q = (get_or c.as_slice-root-items.result.now at.root-index no_root).line in
     λ z.
     let here = c.first_broken-here.ensures z ∙ ap (λ (P : ℕ). least (broken N E P (tree N.lines q))) c.single-places.ensures in
-    c.lesser-first.ensures ∙ ap₂ lesser_of (at.invariant z) here ∙ least_more F at.root-index (root_at rs) (root_read rs c.as_slice-root-items.ensures at.root-index c.loop-root-test.true)
+    let root = root_read rs c.as_slice-root-items.ensures at.root-index c.loop-root-test.true in
+    c.lesser-first.ensures ∙ ap₂ lesser_of (at.invariant z) here ∙ least_more F at.root-index (root_at rs) root
 
 pub returns : goal.returns
 unfolding roots_of

@@ -7,4 +7,7 @@ use Rattle.rules.specs.Masks.{IndexOf}
 use Rattle.verdict.proofs.first_line.Given as goal
 
 abbrev pub invariant-loop-root : goal.invariant-loop-root
-invariant-loop-root l = IndexOf (estimate_view l.estimate) l.index.sets → option_of (λ q. q) l.first ≡ least (concat (λ x. broken (net_view l.net) (estimate_view l.estimate) (place_set x.site) (process (net_view l.net) x)) (table l.root-index (root_at l.net.roots)))
+invariant-loop-root l =
+    let N = net_view l.net in
+    let E = estimate_view l.estimate in
+    IndexOf E l.index.sets → option_of (λ q. q) l.first ≡ least (concat (λ x. broken N E (place_set x.site) (process N x)) (table l.root-index (root_at l.net.roots)))
