@@ -1,22 +1,21 @@
 //! An arrival brought into the engine's state.
 #![tactic(auto)]
 
-ghost use Rattle.std.specs.Prelude.{◌≡◌, List, ℕ, ◌<◌, ◌≤◌, eqb, length};
+ghost use Rattle.std.specs.Prelude.{◌≡◌, List, ℕ, ◌<◌, ◌≤◌, eqb};
 ghost use Rattle.sets.specs.Lists.{◌&◌, either};
 ghost use Rattle.sets.specs.Bits.{mem};
 ghost use Rattle.klaim.specs.Process.{tree};
-ghost use Rattle.klaim.specs.Net as Spec;
 ghost use Rattle.klaim.specs.Reader.{gives, read_arrival};
 ghost use Rattle.klaim.specs.WellFormed.{ArrivalRead};
-ghost use Rattle.tables.specs.View.{lines_of, tuples_of, net_view, estimate_view, InForm};
-ghost use Rattle.rules.specs.Masks.{Sized, IndexOf};
+ghost use Rattle.tables.specs.View.{lines_of, net_view, estimate_view, InForm};
+ghost use Rattle.rules.specs.Masks.{Sized};
 ghost use Rattle.door.specs.Parts.{sound as sound_of};
 ghost use Rattle.state.specs.Fits.{Fits};
 ghost use Rattle.brings.specs.Brought.{Brought};
 
 use matching::RowIndex;
-use state::{Event, State};
-use tables::{Estimate, Lines, Net, Tuples};
+use state::{Arrival, Event, State};
+use tables::{Estimate, Lines, Net};
 
 // The set with site l too, if `here`.
 fn with_site(sites: u32, l: u8, here: bool) -> u32
@@ -26,20 +25,12 @@ fn with_site(sites: u32, l: u8, here: bool) -> u32
     if here { sites | sets::single(l) } else { sites }
 }
 
-// The index of the rows of A. They come by value, since the table's length is known of a value.
-fn index_of(stand: Tuples) -> RowIndex
-    requires { length stand.bytes ≡ 1536 → Sized stand.count stand.bytes }
-    ensures { (E : Spec.Estimate) → E.stand ≡ tuples_of stand → IndexOf E result.sets }
-{
-    RowIndex::of(&stand)
-}
-
 // The set of the net's sites at which the arrival whose root is line q is sound.
 fn sound_sites(net: &Net, estimate: &Estimate, lines: &Lines, q: u8) -> u32
-    requires { InForm lines.now.count lines.now.bytes q × (length estimate.now.stand.bytes ≡ 1536 → Sized estimate.now.stand.count estimate.now.stand.bytes) × (net.now.size ≤ 32) }
+    requires { InForm lines.now q × Sized estimate.now.stand × (net.now.size ≤ 32) }
     ensures { (l : ℕ) → l < net.now.size → mem l result ≡ sound_of (net_view net.now) (estimate_view estimate.now) l (tree (lines_of lines.now) q) }
 {
-    let index = index_of(estimate.stand);
+    let index = RowIndex::of(&estimate.stand);
     let mut sites: u32 = 0;
     for l in 0..net.size {
         let here = door::sound(net, estimate, &index, lines, l, q);
@@ -55,11 +46,8 @@ fn join(state: &mut State, arrival: &Lines)
 {
     let root = state.lines.count as u8;
     renumber::append_moved(&mut state.lines, arrival);
-    let sites = sound_sites(&state.net, &state.estimate, &state.lines, root);
-    let k = state.arrivals.count;
-    state.arrivals.roots[k] = root;
-    state.arrivals.sound[k] = sites;
-    state.arrivals.count = k + 1;
+    let sound = sound_sites(&state.net, &state.estimate, &state.lines, root);
+    state.arrivals.push(Arrival { root, sound });
     state.told = Ok(Event::Brought(root));
 }
 

@@ -1,12 +1,8 @@
 use mathlib.Core.Path.{◌≡◌, refl}
 use Prim.Native.Nat.{suc, ◌+◌}
 use native.Mathlib.Omega.{arith}
-use Rattle.tables.specs.View.{estimate_view}
 use Rattle.brings.proofs.Laws.{sites_none, sites_more, sites_all}
 use Rattle.brings.proofs.sound_sites.Goals as goal
-
-pub index_of-index-requires : goal.index_of-index-requires
-index_of-index-requires c = c.requires.1
 
 pub loop-l-init : goal.loop-l-init
 loop-l-init c = sites_none _
@@ -21,7 +17,7 @@ pub loop-l-preserved : goal.loop-l-preserved
 loop-l-preserved c =
     let at = c.loop-l in
     let e : suc at.l ≡ at.l + 1 = omega arith in
-    sites_more _ at.l at.sites _ at.invariant (c.sound-here.ensures (c.index_of-index.ensures (estimate_view c.args.estimate.now) refl)) c.with_site-sites.ensures (at.l + 1) e
+    sites_more _ at.l at.sites _ at.invariant (c.sound-here.ensures (record { rows = c.args.estimate.now.stand; stand = refl; sized = c.requires.1; made = c.of-index.ensures })) c.with_site-sites.ensures (at.l + 1) e
 
 pub returns : goal.returns
 returns c =
