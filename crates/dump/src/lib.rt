@@ -2,13 +2,13 @@
 #![tactic(auto)]
 
 ghost use Rattle.std.specs.Prelude.{◌≡◌, ◌+◌, ◌*◌, ◌<◌, ◌≤◌, length};
-ghost use Rattle.state.specs.Fits.{Fits};
 
 use answers::Row;
 use klaim::Site;
-use state::State;
+use state::{Arrival, Arrivals, State};
 use std::io;
 use std::io::Write;
+use tables::{SITES, Tuple};
 use threads::{Bindings, Thread};
 
 // The hexadecimal digits.
@@ -24,7 +24,7 @@ fn put_hex<const N: usize>(row: &mut Row<N>, byte: u8)
 }
 
 // A policy, site by site.
-fn put_policy<const N: usize>(row: &mut Row<N>, policy: &[u8; 32])
+fn put_policy<const N: usize>(row: &mut Row<N>, policy: &[u8; SITES])
     requires { row.old.end + 64 ≤ N }
     ensures { row.new.end ≡ row.old.end + 64 }
 {
@@ -78,45 +78,51 @@ fn say_thread<W: Write>(output: &mut W, thread: &Thread) -> io::Result<()> {
     row.say(output)
 }
 
-// The sites of a tuple, each behind a comma; the first byte of its six says how many there are.
-fn put_sites<const N: usize>(row: &mut Row<N>, tuple: &[u8; 6])
-    requires { row.old.end + 60 ≤ N }
-    ensures { (row.old.end ≤ row.new.end) × (row.new.end ≤ row.old.end + 60) }
+// A site behind a comma.
+fn put_site<const N: usize>(row: &mut Row<N>, site: u8)
+    requires { row.old.end + 12 ≤ N }
+    ensures { (row.old.end ≤ row.new.end) × (row.new.end ≤ row.old.end + 12) }
 {
-    let n = usize::from(tuple[0]).min(5);
-    for site in &tuple[1..n + 1] {
-        row.text(b",s");
-        row.count(usize::from(*site));
+    row.text(b",s");
+    row.count(usize::from(site));
+}
+
+// The sites of the fields of a tuple.
+fn put_fields<const N: usize>(row: &mut Row<N>, fields: &[u8])
+    requires { row.old.end + 12 * length fields.now ≤ N }
+    ensures { (row.old.end ≤ row.new.end) × (row.new.end ≤ row.old.end + 12 * length fields.now) }
+{
+    for site in fields {
+        put_site(row, *site);
     }
 }
 
 // A tuple: its site, its fields.
-fn say_tuple<W: Write>(output: &mut W, tuple: &[u8; 6]) -> io::Result<()> {
+fn say_tuple<W: Write>(output: &mut W, tuple: &Tuple) -> io::Result<()> {
     let mut row = Row::<80>::new();
     row.text(b"tuple");
-    put_sites(&mut row, tuple);
+    put_site(&mut row, tuple.site);
+    put_fields(&mut row, tuple.fields.as_slice());
     row.byte(b'\n');
     row.say(output)
 }
 
-// The lines of roots, each behind a comma.
-fn put_roots<const N: usize>(row: &mut Row<N>, roots: &[u8])
-    requires { row.old.end + 11 * length roots.now ≤ N }
-    ensures { (row.old.end ≤ row.new.end) × (row.new.end ≤ row.old.end + 11 * length roots.now) }
+// The root lines of arrivals, each behind a comma.
+fn put_roots<const N: usize>(row: &mut Row<N>, arrivals: &[Arrival])
+    requires { row.old.end + 11 * length arrivals.now ≤ N }
+    ensures { (row.old.end ≤ row.new.end) × (row.new.end ≤ row.old.end + 11 * length arrivals.now) }
 {
-    for line in roots {
+    for arrival in arrivals {
         row.byte(b',');
-        row.count(usize::from(*line));
+        row.count(usize::from(arrival.root));
     }
 }
 
-// Roots.
-fn say_roots<W: Write>(output: &mut W, roots: &[u8]) -> io::Result<()>
-    requires { length roots.now ≤ 256 }
-{
+// The roots of what was brought.
+fn say_roots<W: Write>(output: &mut W, arrivals: &Arrivals) -> io::Result<()> {
     let mut row = Row::<2832>::new();
     row.text(b"roots");
-    put_roots(&mut row, roots);
+    put_roots(&mut row, arrivals.as_slice());
     row.byte(b'\n');
     row.say(output)
 }
@@ -140,20 +146,15 @@ fn say_counts<W: Write>(
 }
 
 // The whole state: its sizes, its threads, its tuples, its lines, the roots of what was brought.
-pub fn say_state<W: Write>(output: &mut W, state: &State) -> io::Result<()>
-    requires { Fits state.now }
-{
-    let threads = &state.threads;
-    let tuples = &state.tuples;
+pub fn say_state<W: Write>(output: &mut W, state: &State) -> io::Result<()> {
     let lines = state.lines.count;
-    say_counts(output, threads.count, tuples.count, lines)?;
-    for thread in &threads.items[..threads.count] {
+    say_counts(output, state.threads.count, state.tuples.count, lines)?;
+    for thread in state.threads.as_slice() {
         say_thread(output, thread)?;
     }
-    let (rows, _) = tuples.bytes.as_chunks::<6>();
-    for tuple in &rows[..tuples.count] {
+    for tuple in state.tuples.as_slice() {
         say_tuple(output, tuple)?;
     }
     answers::say_count(output, b"lines,", lines)?;
-    say_roots(output, &state.arrivals.roots[..state.arrivals.count])
+    say_roots(output, &state.arrivals)
 }
