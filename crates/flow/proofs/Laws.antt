@@ -2,17 +2,13 @@
 -- Assumes nothing.
 use mathlib.Core.Path.{◌≡◌, refl, sym, ap, subst, ◌∙◌}
 use mathlib.Core.List.{List}
-use Prim.Native.Nat.{ℕ, ◌<◌, ◌^◌}
+use Prim.Native.Nat.{ℕ, ◌<◌}
 use lib.ListN.{get_or}
 use Rattle.sets.specs.Lists.{table}
 use Rattle.sets.specs.Bits.{accept_bit, mem, sites, join, grant, joins}
 use Rattle.sets.proofs.Tables.{get_or_table, same_table}
-use Rattle.klaim.specs.declared.Site.{Site}
-use Rattle.klaim.specs.declared.Var.{Var}
-use Rattle.klaim.specs.declared.Loc.{Loc}
-use Rattle.klaim.specs.declared.Loc.TheVariants.{At, Here, Use}
 use Rattle.klaim.specs.Process.{Tree, node, tree}
-use Rattle.klaim.specs.Net.{Net, Estimate, box_at, may}
+use Rattle.klaim.specs.Net.{Net, Estimate, box_at}
 use Rattle.klaim.specs.Analysis.{reach}
 use Rattle.klaim.specs.Report.{uses}
 use Rattle.tables.specs.declared.Action.{Action}
@@ -23,24 +19,6 @@ use Rattle.tables.proofs.LineTable.{tree_at, Child, Next, next}
 use Rattle.flow.specs.declared.Part.{Part}
 use Rattle.flow.specs.declared.Part.TheVariants.{Nothing, Both, Same, Acts, Accepts}
 use Rattle.flow.specs.Part.{part_of}
-
--- the three kinds of a target
-module _ {x : Loc} where
-  pub low_at : {y : Loc} → x ≡ y → LowLoc x → LowLoc y
-  low_at e h = subst LowLoc e h
-
-  module _ (E : Estimate) (P : ℕ) where
-    pub reach_site : {s : Site} → x ≡ At s → 2 ^ s.0 ≡ reach E P x
-    unfolding reach
-    reach_site e = rw e
-
-    pub reach_here : x ≡ Here → P ≡ reach E P x
-    unfolding reach
-    reach_here e = rw e
-
-    pub reach_var : {u : Var} → x ≡ Use u → may E u.0 ≡ reach E P x
-    unfolding reach
-    reach_var e = rw e
 
 -- an element of a list that is a table
 pub at_table : (n : ℕ) (f : ℕ → ℕ) {l : List ℕ} → l ≡ table n f → (k : ℕ) → k < n → get_or l k 0 ≡ f k

@@ -17,6 +17,7 @@ use std::array;
 use tables::{Action, Estimate, Lines, Net};
 
 // The reach of a target or field, `places` being the place set: the sites that it may stand for.
+#[tactic(auto, unfolding(klaim::specs::Analysis::reach))]
 pub fn reach(x: Loc, places: u32, estimate: &Estimate) -> u32
     requires { LowLoc x }
     ensures { result ≡ reach_of (estimate_view estimate.now) places x }
@@ -89,6 +90,7 @@ impl UseMap {
     pub const EVERY: u8 = sets::EVERY;
 
     // The empty use map: no right on any site.
+    #[tactic(auto, unfolding(sets::specs::Lists::table, sets::specs::Lists::table_from))]
     pub fn empty() -> UseMap
         ensures { result.rights ≡ table 32 (λ s. 0) }
     {

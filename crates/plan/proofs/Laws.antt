@@ -1,8 +1,8 @@
 -- Laws of what a step comes to, case by case.
 -- Assumes nothing.
-use mathlib.Core.Path.{◌≡◌, refl, sym, ap, ap₂, subst, ◌∙◌}
+use mathlib.Core.Path.{◌≡◌, refl, sym, ap, subst, ◌∙◌}
 use mathlib.Core.Bool.{Bool, true, false}
-use mathlib.Core.List.{List, [], ◌∷◌, ◌++◌, map}
+use mathlib.Core.List.{List, [], ◌∷◌}
 use Rattle.std.specs.Prelude as Prelude
 use Prim.Native.Nat.{ℕ, zero, suc, ◌+◌, ◌<◌, ◌≤◌}
 use native.Mathlib.Omega.{arith}
@@ -20,7 +20,7 @@ use Rattle.klaim.specs.declared.Slot.{Slot}
 use Rattle.klaim.specs.declared.Slot.TheVariants.{Value}
 use Rattle.klaim.specs.Process.{tree}
 use Rattle.klaim.specs.Report.{door}
-use Rattle.klaim.specs.Engine.{stop, quiet, act, after, to, under, value, bind_all, agrees, get_plan, accept_plan, plan}
+use Rattle.klaim.specs.Engine.{stop, act, after, to, value, bind_all, agrees, get_plan, accept_plan, plan}
 use Rattle.klaim.specs.Process as Process
 use Rattle.klaim.specs.State as Spec
 use Rattle.tables.specs.declared.Tuple.{Tuple}
@@ -34,30 +34,6 @@ use Rattle.plan.specs.Move.{Placed}
 use Rattle.tuples.proofs.Rows.{row_some, row_none}
 
 module _ (st : Spec.State) (k m r : ℕ) (th : Spec.Thread) where
-  pub plan_par : (a b : ℕ) {t u : Spec.Thread} → t ≡ to th a → u ≡ to th b → quiet (after st k t (Spec.settle st.lines u) st.tuples) ≡ plan st k th m r (Process.Par a b)
-  unfolding plan
-  plan_par a b p q = ap₂ (λ (t u : Spec.Thread). quiet (after st k t (Spec.settle st.lines u) st.tuples)) p q
-
-  pub plan_rep : (a : ℕ) {u : Spec.Thread} → u ≡ to th a → quiet (after st k th (Spec.settle st.lines u) st.tuples) ≡ plan st k th m r (Process.Rep a)
-  unfolding plan
-  plan_rep a q = ap (λ (u : Spec.Thread). quiet (after st k th (Spec.settle st.lines u) st.tuples)) q
-
-  pub plan_out : (a : ℕ) (g : Loc) (fs : List Loc) {v : ℕ} {t : Spec.Thread} {row : List ℕ} → v ≡ value th.site th.bindings g → t ≡ to th a → row ≡ map (value th.site th.bindings) (g ∷ fs) → act v 1 (after st k t [] (st.tuples ++ (row ∷ []))) ≡ plan st k th m r (Process.Out a g fs)
-  unfolding plan
-  plan_out a g fs {v} p q e =
-      ap₂ (λ (t : Spec.Thread) (row : List ℕ). act v 1 (after st k t [] (st.tuples ++ (row ∷ [])))) q e
-      ∙ ap (λ (v : ℕ). act v 1 (after st k (to th a) [] (st.tuples ++ (map (value th.site th.bindings) (g ∷ fs) ∷ [])))) p
-
-  pub plan_eval : (a : ℕ) (g : Loc) (b d : ℕ) {v : ℕ} {t u : Spec.Thread} → v ≡ value th.site th.bindings g → t ≡ to th a → u ≡ under st.net d v b th.bindings → act v 8 (after st k t (Spec.settle st.lines u) st.tuples) ≡ plan st k th m r (Process.Eval a g b d)
-  unfolding plan
-  plan_eval a g b d {v} p q e =
-      ap₂ (λ (t u : Spec.Thread). act v 8 (after st k t (Spec.settle st.lines u) st.tuples)) q e
-      ∙ ap (λ (v : ℕ). act v 8 (after st k (to th a) (Spec.settle st.lines (under st.net d v b th.bindings)) st.tuples)) p
-
-  pub plan_guest : (a d : ℕ) {t u : Spec.Thread} → t ≡ to th a → u ≡ under st.net d th.site r Spec.unbound → act th.site 16 (after st k t (Spec.settle st.lines u) st.tuples) ≡ accept_plan st k th r a d true true
-  unfolding accept_plan
-  plan_guest a d q e = ap₂ (λ (t u : Spec.Thread). act th.site 16 (after st k t (Spec.settle st.lines u) st.tuples)) q e
-
   -- accept, by its two tests
   pub accept_unknown : (a d : ℕ) → among st.arrivals r ≡ false → stop 24 ≡ plan st k th m r (Process.Accept a d)
   unfolding plan accept_plan

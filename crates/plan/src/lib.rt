@@ -47,6 +47,7 @@ pub struct Move {
 }
 
 // par: to a; b appended.
+#[tactic(auto, unfolding(klaim::specs::Engine::plan))]
 fn plan_par(th: Thread, a: u8, b: u8) -> Move
     ensures value { (st : Spec.State) (k m r : ℕ) → move_view st k m result ≡ plan_of st k (thread_view th) m r (Process.Par a b) }
     ensures possible { (m n : ℕ) → Possible m n result }
@@ -60,6 +61,7 @@ fn plan_par(th: Thread, a: u8, b: u8) -> Move
 }
 
 // rep: stays; a appended.
+#[tactic(auto, unfolding(klaim::specs::Engine::plan))]
 fn plan_rep(th: Thread, a: u8) -> Move
     ensures value { (st : Spec.State) (k m r : ℕ) → move_view st k m result ≡ plan_of st k (thread_view th) m r (Process.Rep a) }
     ensures possible { (m n : ℕ) → Possible m n result }
@@ -73,6 +75,7 @@ fn plan_rep(th: Thread, a: u8) -> Move
 }
 
 // out: to a; the tuple appended at the target.
+#[tactic(auto, unfolding(klaim::specs::Engine::plan))]
 fn plan_out(th: Thread, a: u8, target: Loc, fields: &Fields<Loc>) -> Move
     ensures value { (st : Spec.State) (k m r : ℕ) → move_view st k m result ≡ plan_of st k (thread_view th) m r (Process.Out a target (items fields.now)) }
     ensures possible { (m n : ℕ) → Possible m n result }
@@ -89,6 +92,7 @@ fn plan_out(th: Thread, a: u8, target: Loc, fields: &Fields<Loc>) -> Move
 }
 
 // eval: to a; b appended at the target, under sandbox d evaluated there.
+#[tactic(auto, unfolding(klaim::specs::Engine::plan, state::specs::View::state_view))]
 fn plan_eval(state: &State, th: Thread, a: u8, target: Loc, b: u8, d: u8) -> Move
     requires { d < 32 }
     ensures value { (k m r : ℕ) → move_view (state_view state.now) k m result ≡ plan_of (state_view state.now) k (thread_view th) m r (Process.Eval a target b d) }
@@ -182,6 +186,7 @@ pub fn admitted(state: &State, i: usize, l: u8, d: u8) -> bool
 }
 
 // accept of the arrival whose root is line q, which the door passes: to a; q appended.
+#[tactic(auto, unfolding(klaim::specs::Engine::accept_plan, state::specs::View::state_view))]
 fn plan_guest(state: &State, th: Thread, a: u8, d: u8, q: u8) -> Move
     requires { d < 32 }
     ensures value { (k m : ℕ) → move_view (state_view state.now) k m result ≡ accept_plan (state_view state.now) k (thread_view th) q a d true true }

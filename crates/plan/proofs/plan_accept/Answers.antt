@@ -11,12 +11,6 @@ use Rattle.plan.specs.Move.{Placed}
 use Rattle.plan.proofs.Laws.{placed_none, accept_unknown, accept_shut, accept_open}
 use Rattle.plan.proofs.plan_accept.Goals as goal
 
-pub admitted-requires : goal.admitted-requires
-admitted-requires c =
-    let at = c.args.state.now.arrivals in
-    let p = subst (λ (o : Option ℕ). Placed at c.args.r o) c.in-Some.is c.arrival_at.ensures in
-    (c.requires.0, p.0, c.requires.1, c.requires.2)
-
 pub returns-in_default-clause-value : goal.returns-in_default-clause-value
 unfolding state_view
 returns-in_default-clause-value c = λ k m. accept_unknown (state_view c.args.state.now) k m c.args.r (thread_view c.args.th) c.args.a c.args.d (placed_none c.args.state.now.arrivals c.args.r c.arrival_at.ensures c.in_default.not-Some)
