@@ -49,7 +49,8 @@ behind N E P t (Read a g fs) = broken N E P (t a)
 behind N E P t (Eval a g b k) = broken N E (reach E P g) (t b) ⧺ broken N E P (t a)
 behind N E P t (Accept a k) = broken N E P (t a)
 
-broken_own : (N : Net) (E : Estimate) (P : ℕ) (t : ℕ → Tree) (q : ℕ) (x : Action) → only (not (own_rule N E P (action_line x))) q ⧺ behind N E P t x ≡ broken N E P (node t q (action_line x))
+broken_own : (N : Net) (E : Estimate) (P : ℕ) (t : ℕ → Tree) (q : ℕ) (x : Action)
+    → only (not (own_rule N E P (action_line x))) q ⧺ behind N E P t x ≡ broken N E P (node t q (action_line x))
 unfolding broken node action_line own_rule only ◌⧺◌
 broken_own N E P t q Nil = refl
 broken_own N E P t q (Par a b) = refl
@@ -60,23 +61,37 @@ broken_own N E P t q (Read a g fs) = refl
 broken_own N E P t q (Eval a g b k) = refl
 broken_own N E P t q (Accept a k) = refl
 
--- the least broken line of line q: its own, if its rule fails, or one behind it
+-- line q: its own rule, and the lines behind it
 module _ (N : Net) (E : Estimate) (P : ℕ) {t : Lines} {q : ℕ} (w : InForm t q) {x : Action} (d : ActionAt t q x) where
-  broken_at : least (only (not (own_rule N E P (action_line x))) q ⧺ behind N E P (tree (lines_of t)) x) ≡ least (broken N E P (tree (lines_of t) q))
-  broken_at = ap least (broken_own N E P (tree (lines_of t)) q x) ∙ ap (λ (u : Tree). least (broken N E P u)) (sym (tree_at w d refl))
+  abbrev holds : Action → Bool
+  holds y = own_rule N E P (action_line y)
 
-  pub found_at : {r rest : Option ℕ} {ok : Bool} → r ≡ cond ok rest (lesser_of (some q) rest) → ok ≡ own_rule N E P (action_line x) → rest ≡ least (behind N E P (tree (lines_of t)) x) → r ≡ least (broken N E P (tree (lines_of t) q))
-  found_at z o h = z ∙ rw (o, h) (sym (least_here (own_rule N E P (action_line x)) q (behind N E P (tree (lines_of t)) x))) ∙ broken_at
+  abbrev rest_of : Action → List ℕ
+  rest_of y = behind N E P (tree (lines_of t)) y
 
-  -- a line that has no rule itself
-  pub free_at : {y : Action} → x ≡ y → true ≡ own_rule N E P (action_line y) → {r : Option ℕ} → r ≡ least (behind N E P (tree (lines_of t)) y) → r ≡ least (broken N E P (tree (lines_of t) q))
-  free_at e o h =
-      found_at {ok = true} refl (o ∙ sym (ap (λ (y : Action). own_rule N E P (action_line y)) e)) (h ∙ sym (ap (λ (y : Action). least (behind N E P (tree (lines_of t)) y)) e))
+  broken_at : only (not (holds x)) q ⧺ rest_of x ≡ broken N E P (tree (lines_of t) q)
+  broken_at = broken_own N E P (tree (lines_of t)) q x ∙ ap (broken N E P) (sym (tree_at w d refl))
+
+  -- the least broken line: its own, if its rule fails, or one behind it
+  pub found_at : {r rest : Option ℕ} {ok : Bool} → r ≡ cond ok rest (lesser_of (some q) rest) → ok ≡ holds x → rest ≡ least (rest_of x)
+      → r ≡ least (broken N E P (tree (lines_of t) q))
+  found_at z o h = z ∙ rw (o, h) (sym (least_here (holds x) q (rest_of x))) ∙ ap least broken_at
+
+  -- where the line has no rule
+  pub free_at : {y : Action} → x ≡ y → true ≡ holds y → {r : Option ℕ} → r ≡ least (rest_of y) → r ≡ least (broken N E P (tree (lines_of t) q))
+  free_at e o h = found_at {ok = true} refl (o ∙ sym (ap holds e)) (h ∙ sym (ap (λ (y : Action). least (rest_of y)) e))
 
   -- a line that one line follows
-  pub after : {a : ℕ} → (x ≡ Rep a) ⊎ ((g : Loc) × (fs : Fields Loc) × (x ≡ Out a g fs)) ⊎ ((g : Loc) × (fs : Fields Slot) × (x ≡ In a g fs)) ⊎ ((g : Loc) × (fs : Fields Slot) × (x ≡ Read a g fs)) ⊎ ((k : ℕ) × (x ≡ Accept a k)) → Child t q a × (broken N E P (tree (lines_of t) a) ≡ behind N E P (tree (lines_of t)) x)
-  after (inl e) = ((next w d e).0, sym (ap (behind N E P (tree (lines_of t))) e))
-  after (inr (inl e)) = ((next w d e.2).0, sym (ap (behind N E P (tree (lines_of t))) e.2))
-  after (inr (inr (inl e))) = ((next w d e.2).0, sym (ap (behind N E P (tree (lines_of t))) e.2))
-  after (inr (inr (inr (inl e)))) = ((next w d e.2).0, sym (ap (behind N E P (tree (lines_of t))) e.2))
-  after (inr (inr (inr (inr e)))) = ((next w d e.1).0, sym (ap (behind N E P (tree (lines_of t))) e.1))
+  abbrev pub One : ℕ → Type 0
+  One a = (x ≡ Rep a)
+      ⊎ ((g : Loc) × (fs : Fields Loc) × (x ≡ Out a g fs))
+      ⊎ ((g : Loc) × (fs : Fields Slot) × (x ≡ In a g fs))
+      ⊎ ((g : Loc) × (fs : Fields Slot) × (x ≡ Read a g fs))
+      ⊎ ((k : ℕ) × (x ≡ Accept a k))
+
+  pub after : {a : ℕ} → One a → Child t q a × (broken N E P (tree (lines_of t) a) ≡ rest_of x)
+  after (inl e) = ((next w d e).0, sym (ap rest_of e))
+  after (inr (inl e)) = ((next w d e.2).0, sym (ap rest_of e.2))
+  after (inr (inr (inl e))) = ((next w d e.2).0, sym (ap rest_of e.2))
+  after (inr (inr (inr (inl e)))) = ((next w d e.2).0, sym (ap rest_of e.2))
+  after (inr (inr (inr (inr e)))) = ((next w d e.1).0, sym (ap rest_of e.1))

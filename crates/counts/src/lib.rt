@@ -50,7 +50,7 @@ fn home_count(net: &Net, s: u8) -> u32
     requires { s < site_limit }
     ensures { result ≡ Listing.home_count (net_view net.now) s }
 {
-    used_count(net, [EVERY; 32], s)
+    used_count(net, [EVERY; SITES], s)
 }
 
 // The same of every site.

@@ -182,22 +182,28 @@ key_low row j = subst (λ (x : ℕ). x < 32) (sym (key_later row j)) (omega arit
 
 -- the columns of a row with one field, with two, three, four
 module _ (s : ℕ) where
-  pub columns_one : (xs : List ℕ) → length xs ≡ 1 → table 6 (in_column (s ∷ xs)) ≡ (2 ∷ s % 32 ∷ get_or xs 0 0 % 32 ∷ 0 ∷ 0 ∷ 0 ∷ [])
+  abbrev all_columns : List ℕ → List ℕ
+  all_columns xs = table 6 (in_column (s ∷ xs))
+
+  abbrev site : List ℕ → ℕ → ℕ
+  site xs j = get_or xs j 0 % 32
+
+  pub columns_one : (xs : List ℕ) → length xs ≡ 1 → all_columns xs ≡ (2 ∷ s % 32 ∷ site xs 0 ∷ 0 ∷ 0 ∷ 0 ∷ [])
   unfolding in_column table table_from
   columns_one (a ∷ []) h = refl
   columns_one xs h = absurd (omega arith)
 
-  pub columns_two : (xs : List ℕ) → length xs ≡ 2 → table 6 (in_column (s ∷ xs)) ≡ (3 ∷ s % 32 ∷ get_or xs 0 0 % 32 ∷ get_or xs 1 0 % 32 ∷ 0 ∷ 0 ∷ [])
+  pub columns_two : (xs : List ℕ) → length xs ≡ 2 → all_columns xs ≡ (3 ∷ s % 32 ∷ site xs 0 ∷ site xs 1 ∷ 0 ∷ 0 ∷ [])
   unfolding in_column table table_from
   columns_two (a ∷ b ∷ []) h = refl
   columns_two xs h = absurd (omega arith)
 
-  pub columns_three : (xs : List ℕ) → length xs ≡ 3 → table 6 (in_column (s ∷ xs)) ≡ (4 ∷ s % 32 ∷ get_or xs 0 0 % 32 ∷ get_or xs 1 0 % 32 ∷ get_or xs 2 0 % 32 ∷ 0 ∷ [])
+  pub columns_three : (xs : List ℕ) → length xs ≡ 3 → all_columns xs ≡ (4 ∷ s % 32 ∷ site xs 0 ∷ site xs 1 ∷ site xs 2 ∷ 0 ∷ [])
   unfolding in_column table table_from
   columns_three (a ∷ b ∷ c ∷ []) h = refl
   columns_three xs h = absurd (omega arith)
 
-  pub columns_four : (xs : List ℕ) → length xs ≡ 4 → table 6 (in_column (s ∷ xs)) ≡ (5 ∷ s % 32 ∷ get_or xs 0 0 % 32 ∷ get_or xs 1 0 % 32 ∷ get_or xs 2 0 % 32 ∷ get_or xs 3 0 % 32 ∷ [])
+  pub columns_four : (xs : List ℕ) → length xs ≡ 4 → all_columns xs ≡ (5 ∷ s % 32 ∷ site xs 0 ∷ site xs 1 ∷ site xs 2 ∷ site xs 3 ∷ [])
   unfolding in_column table table_from
   columns_four (a ∷ b ∷ c ∷ d ∷ []) h = refl
   columns_four xs h = absurd (omega arith)
@@ -350,29 +356,34 @@ row_key row j h l = key_later row j ∙ mod_low (get_or row j 0) (row_low row j 
 
 -- row i of rows of sites, from place j on
 module _ (ms : List ℕ) (rows : Tuples) (m i : ℕ) (five : length ms ≡ 5) (most : m ≤ 5) (L : Low rows) where
-  pub narrow_end : (a : Bool) → (a ≡ true → (i < rows.count) × (length (row_at rows i) ≡ m)) → a ≡ (a & fits (drop m (Sets ms m)) (drop m (row_at rows i)))
+  abbrev row : List ℕ
+  row = row_at rows i
+
+  abbrev fits_past : ℕ → Bool
+  fits_past j = fits (drop j (Sets ms m)) (drop j row)
+
+  pub narrow_end : (a : Bool) → (a ≡ true → (i < rows.count) × (length row ≡ m)) → a ≡ (a & fits_past m)
   unfolding ◌&◌
-  narrow_end true f = sym (fits_end (Sets ms m) (row_at rows i) m (omega (arith, sets_long_lem ms m most five)) (omega (arith, (f refl).1)))
+  narrow_end true f = sym (fits_end (Sets ms m) row m (omega (arith, sets_long_lem ms m most five)) (omega (arith, (f refl).1)))
   narrow_end false f = refl
 
-  narrow_at : (j : ℕ) → j < m → i < rows.count → length (row_at rows i) ≡ m → (fits (drop (suc j) (Sets ms m)) (drop (suc j) (row_at rows i)) & mem (in_column (row_at rows i) (j + 1)) (get_or ms j 0)) ≡ fits (drop j (Sets ms m)) (drop j (row_at rows i))
+  narrow_at : (j : ℕ) → j < m → i < rows.count → length row ≡ m
+      → (fits_past (suc j) & mem (in_column row (j + 1)) (get_or ms j 0)) ≡ fits_past j
   unfolding tuples_of
   narrow_at j h l e =
-      let row = row_at rows i in
-      let rest = fits (drop (suc j) (Sets ms m)) (drop (suc j) row) in
       let low : all_below 32 row ≡ true = table_all (all_below 32) rows.count (row_at rows) L i l in
       let here : j < length row = omega (arith, e) in
-      ap (λ (x : ℕ). rest & mem x (get_or ms j 0)) (row_key row j low here)
+      ap (λ (x : ℕ). fits_past (suc j) & mem x (get_or ms j 0)) (row_key row j low here)
       ∙ and_swap _ _
-      ∙ ap (λ (b : Bool). b & rest) (among_low (get_or ms j 0) _ (row_low row j low here))
+      ∙ ap (λ (b : Bool). b & fits_past (suc j)) (among_low (get_or ms j 0) _ (row_low row j low here))
       ∙ sym (fits_at ms row m j five most e h)
 
-  pub narrow_down : (j : ℕ) → 0 < j → j ≤ m → (a : Bool) → (a ≡ true → (i < rows.count) × (length (row_at rows i) ≡ m)) → ((a & fits (drop j (Sets ms m)) (drop j (row_at rows i))) & mem (in_column (row_at rows i) (j - 1 + 1)) (get_or ms (j - 1) 0)) ≡ (a & fits (drop (j - 1) (Sets ms m)) (drop (j - 1) (row_at rows i)))
+  pub narrow_down : (j : ℕ) → 0 < j → j ≤ m → (a : Bool) → (a ≡ true → (i < rows.count) × (length row ≡ m))
+      → ((a & fits_past j) & mem (in_column row (j - 1 + 1)) (get_or ms (j - 1) 0)) ≡ (a & fits_past (j - 1))
   unfolding ◌&◌
   narrow_down j p h true f =
       let back : j ≡ suc (j - 1) = omega arith in
-      ap (λ (x : ℕ). fits (drop x (Sets ms m)) (drop x (row_at rows i)) & mem (in_column (row_at rows i) (j - 1 + 1)) (get_or ms (j - 1) 0)) back
-      ∙ narrow_at (j - 1) (omega arith) (f refl).0 (f refl).1
+      ap (λ (x : ℕ). fits_past x & mem (in_column row (j - 1 + 1)) (get_or ms (j - 1) 0)) back ∙ narrow_at (j - 1) (omega arith) (f refl).0 (f refl).1
   narrow_down j p h false f = refl
 
 ones_none : ones 0 ≡ 0
@@ -435,11 +446,6 @@ module _ (r : List ℕ) (w : ℕ) (here : w < 4) where
       keep_like (in_rows r) (λ b. mem b (get_or r w 0)) 64 (64 * w) 0 (λ b l. in_word b (omega arith))
       ∙ ones_from (get_or r w 0) 64 0 (subst (λ (y : ℕ). y < 2 ^ 64) (sym (div-one (get_or r w 0))) h)
       ∙ ap ones (div-one (get_or r w 0))
-
-  pub some_word : (get_or r w 0 ≡ 0 → ⊥) → get_or r w 0 < 2 ^ 64 → any (in_rows r) (below 256) ≡ true
-  some_word some h =
-      let t = trailing 64 (get_or r w 0) some h in
-      any_i (in_rows r) (below_in 256 (64 * w + count_trailing_zeros 64 (get_or r w 0)) (omega (arith, t.0))) (in_word (count_trailing_zeros 64 (get_or r w 0)) t.0 ∙ t.1)
 
 pub word_same : (x y : List ℕ) (w : ℕ) → w < 4 → get_or x w 0 < 2 ^ 64 → get_or y w 0 < 2 ^ 64 → ((i : ℕ) → i < 256 → in_rows x i ≡ in_rows y i) → get_or x w 0 ≡ get_or y w 0
 word_same x y w here a b h = same_bits (get_or x w 0) (get_or y w 0) (λ p. go p (dec_lt p 64))

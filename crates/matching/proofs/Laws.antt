@@ -10,7 +10,7 @@ use native.Mathlib.Nat.{min-eq_left, min-eq_right}
 use native.Mathlib.Decide.{dec_le}
 use lib.Dec.{eqb}
 use lib.ListN.{length, get_or, take, drop, set, length-take, length-map, length-append, drop_of_length-le}
-use lib.Seq.{take-suc-set, drop-cons, get_or-take}
+use lib.Seq.{take-suc-set, length-take-le, drop-cons, get_or-take}
 use Rattle.std.proofs.lemmas.List.{get_or-map, get_or_default, map_more}
 use Rattle.sets.specs.Lists.{All, done, more, ◌&◌, any, only, keep, among, table_from, table, same, fits, product}
 use Rattle.sets.specs.Bits.{mem, sites}
@@ -21,7 +21,8 @@ use Rattle.sets.proofs.Bits.{sites_in_lem, in_sites}
 use Rattle.klaim.specs.Invariant.{distinct}
 use Rattle.klaim.specs.Analysis.{choices}
 use Rattle.klaim.proofs.Choices.{choices_count, sites_unlike}
-use Rattle.tables.specs.declared.table.Table.{Table}
+use Rattle.tables.specs.declared.Tuple.{Tuple}
+use Rattle.tables.specs.View.{Tuples, no_tuple, tuple_view, row_at}
 
 -- a site is in a set as the code tests it
 pub among_low : (m v : ℕ) → v < 32 → mem v m ≡ among (sites m) v
@@ -128,16 +129,24 @@ all_nth {P = P} {xs = y ∷ ys} (more p h) zero l e = subst P (sym e) p
 all_nth {xs = y ∷ ys} (more p h) (suc k) l e = all_nth h k (omega arith) e
 
 -- one more set is stored
-pub sets_more : {A : Type 0} (f : A → ℕ) (v : ℕ) (xs : List A) (r : List ℕ) (j y : ℕ) {x : A} → length r ≡ 5 → j < 4 → j < length xs → x ≡ get_or xs j x → take (j + 1) r ≡ v ∷ map f (take j xs) → y ≡ f x → take (j + 1 + 1) (set r (j + 1) y) ≡ v ∷ map f (take (j + 1) xs)
+pub sets_more : {A : Type 0} (f : A → ℕ) (v : ℕ) (xs : List A) (r : List ℕ) (j y : ℕ) {x : A}
+    → length r ≡ 5 → j < 4 → j < length xs → x ≡ get_or xs j x → take (j + 1) r ≡ v ∷ map f (take j xs) → y ≡ f x → take (j + 1 + 1) (set r (j + 1) y) ≡ v ∷ map f (take (j + 1) xs)
 sets_more f v xs r j y {x} five low here at e w =
     ap (λ (n : ℕ). take n (set r (j + 1) y)) (add-one (j + 1))
     ∙ take-suc-set r (j + 1) y (omega arith)
     ∙ ap₂ (λ (l : List ℕ) (z : ℕ). l ++ (z ∷ [])) e (w ∙ ap f at)
     ∙ ap (λ (l : List ℕ). v ∷ l) (sym (map_more f xs j x here))
 
--- an entry as it is read from the slice of the entries
-pub entry_read : {A : Type 0} {N : ℕ} (t : Table A N) (i : ℕ) (d e : A) → i < t.count → {xs : List A} → xs ≡ take t.count t.items → get_or xs i d ≡ get_or t.items i e
-entry_read {A} t i d e h q =
-    ap (λ (xs : List A). get_or xs i d) q
-    ∙ get_or-take t.count t.items i d h
-    ∙ get_or_default t.items i d e (omega (arith, h, t.few, t.long))
+-- the rows as a loop over their slice reads them
+module _ (t : Tuples) {xs : List Tuple} (e : xs ≡ take t.count t.items) where
+  pub rows_long : length xs ≡ t.count
+  rows_long = ap length e ∙ length-take-le t.count t.items (omega (arith, t.few, t.long))
+
+  pub row_read : (i : ℕ) (d : Tuple) → i < length xs → tuple_view (get_or xs i d) ≡ row_at t i
+  unfolding row_at
+  row_read i d h =
+      let here : i < t.count = omega (arith, rows_long) in
+      ap tuple_view
+      (ap (λ (ys : List Tuple). get_or ys i d) e
+      ∙ get_or-take t.count t.items i d here
+      ∙ get_or_default t.items i d no_tuple (omega (arith, t.few, t.long)))

@@ -1,16 +1,20 @@
 -- Laws of what a step comes to, case by case.
 -- Assumes nothing.
-use mathlib.Core.Path.{◌≡◌, refl, sym, ap, ap₂, ◌∙◌}
+use mathlib.Core.Path.{◌≡◌, refl, sym, ap, ap₂, subst, ◌∙◌}
 use mathlib.Core.Bool.{Bool, true, false}
 use mathlib.Core.List.{List, [], ◌∷◌, ◌++◌, map}
 use Rattle.std.specs.Prelude as Prelude
-use Prim.Native.Nat.{ℕ, suc, ◌<◌, ◌≤◌}
-use borrow.Author.Tests.{eq-eqb, ne_eqb}
+use Prim.Native.Nat.{ℕ, zero, suc, ◌+◌, ◌<◌, ◌≤◌}
+use native.Mathlib.Omega.{arith}
+use borrow.Author.Tests.{ne_eqb}
 use lib.Dec.{eqb}
-use lib.ListN.{length, get_or, get_elem?, take, drop}
-use Rattle.sets.specs.Lists.{◌&◌, any, among, table}
-use Rattle.sets.proofs.Tables.{list_table}
-use Rattle.sets.proofs.Shared.{any_yes, any_no, any_end}
+use mathlib.Core.Option.{some}
+use lib.ListN.{length, get_or, get_elem?}
+use Rattle.std.specs.List.{AllWithin, HoldsAt}
+use Rattle.std.specs.Option.{MatchOption}
+use Rattle.sets.specs.Lists.{Elem, ◌&◌, either, any, among, table, table_from}
+use Rattle.sets.proofs.Lists.{in_among}
+use Rattle.sets.proofs.Tables.{table_in}
 use Rattle.klaim.specs.declared.Loc.{Loc}
 use Rattle.klaim.specs.declared.Slot.{Slot}
 use Rattle.klaim.specs.declared.Slot.TheVariants.{Value}
@@ -19,8 +23,13 @@ use Rattle.klaim.specs.Report.{door}
 use Rattle.klaim.specs.Engine.{stop, quiet, act, after, to, under, value, bind_all, agrees, get_plan, accept_plan, plan}
 use Rattle.klaim.specs.Process as Process
 use Rattle.klaim.specs.State as Spec
-use Rattle.tables.specs.View.{rows_view, row_at}
+use Rattle.tables.specs.declared.Tuple.{Tuple}
+use Rattle.tables.specs.View.{Tuples, no_tuple, tuple_view, row_at, tuples_of}
 use Rattle.threads.specs.View.{rebound}
+use Rattle.tables.specs.Entries.{entries}
+use Rattle.state.specs.declared.Arrival.{Arrival}
+use Rattle.state.specs.View.{Arrivals, no_arrival, arrival_root, arrivals_of}
+use Rattle.plan.proofs.Entries.{entries_long, entry_at}
 use Rattle.plan.specs.Move.{Placed}
 use Rattle.tuples.proofs.Rows.{row_some, row_none}
 
@@ -63,51 +72,64 @@ module _ (st : Spec.State) (k m r : ℕ) (th : Spec.Thread) where
   accept_open a d e q = rw (e, q)
 
   -- in and read
-  module _ (right a : ℕ) (g : Loc) (ss : List Slot) (rest : List (List ℕ)) (n : ℕ) (bs : List ℕ) (e : st.tuples ≡ rows_view n bs) where
-    pub get_none : n ≤ m → stop 22 ≡ get_plan st k th right a g ss rest (get_elem? st.tuples m)
+  module _ (right a : ℕ) (g : Loc) (ss : List Slot) (rest : List (List ℕ)) (ts : Tuples) (e : st.tuples ≡ tuples_of ts) where
+    pub get_none : ts.count ≤ m → stop 22 ≡ get_plan st k th right a g ss rest (get_elem? st.tuples m)
     unfolding get_plan
-    get_none h = rw (e, row_none n bs m h)
+    get_none h = rw (e, row_none ts m h)
 
-    pub get_other : m < n → agrees th g ss (row_at bs m) ≡ false → stop 23 ≡ get_plan st k th right a g ss rest (get_elem? st.tuples m)
-    unfolding get_plan
-    get_other h q = rw (e, row_some n bs m h, q)
+    module _ (h : m < ts.count) {t : Tuple} (q : t ≡ get_or ts.items m no_tuple) where
+      here : get_elem? st.tuples m ≡ some (tuple_view t)
+      unfolding row_at
+      here = ap (λ (xs : List (List ℕ)). get_elem? xs m) e ∙ row_some ts m h ∙ ap (λ (t : Tuple). some (tuple_view t)) (sym q)
 
-    pub get_some : m < n → agrees th g ss (row_at bs m) ≡ true → act (value th.site th.bindings g) right (after st k (to (rebound th (bind_all (Value g ∷ ss) (row_at bs m) th.bindings)) a) [] rest) ≡ get_plan st k th right a g ss rest (get_elem? st.tuples m)
-    unfolding get_plan to
-    get_some h q = rw (e, row_some n bs m h, q)
+      pub get_other : agrees th g ss (tuple_view t) ≡ false → stop 23 ≡ get_plan st k th right a g ss rest (get_elem? st.tuples m)
+      unfolding get_plan
+      get_other n = rw (here, n)
 
--- a test of the first n elements of an array, from place i on
-module _ (f : ℕ → Bool) (xs : List ℕ) (n : ℕ) (long : n ≤ length xs) (i : ℕ) where
-  from_place : (j : ℕ) → any f (drop j (take n xs)) ≡ any f (drop j (table n (λ k. get_or xs k 0)))
-  from_place j = ap (λ (rs : List ℕ). any f (drop j rs)) (list_table 0 n xs long)
+      pub get_some : agrees th g ss (tuple_view t) ≡ true →
+          act (value th.site th.bindings g) right (after st k (to (rebound th (bind_all (Value g ∷ ss) (tuple_view t) th.bindings)) a) [] rest)
+          ≡ get_plan st k th right a g ss rest (get_elem? st.tuples m)
+      unfolding get_plan to
+      get_some y = rw (here, y)
 
-  pub one_here : i < n → f (get_or xs i 0) ≡ true → any f (drop i (take n xs)) ≡ true
-  one_here h e = from_place i ∙ any_yes f n (λ k. get_or xs k 0) i h e
+-- root r among the roots of a table, and not among them
+module _ (n : ℕ) (root : ℕ → ℕ) (r : ℕ) where
+  pub among_at : (i : ℕ) → i < n → root i ≡ r → among (table n root) r ≡ true
+  among_at i h e = in_among (subst (λ (x : ℕ). Elem x (table n root)) e (table_in n root i h))
 
-  pub one_later : i < n → f (get_or xs i 0) ≡ false → (j : ℕ) → suc i ≡ j → any f (drop i (take n xs)) ≡ any f (drop j (take n xs))
-  one_later h e j s = from_place i ∙ any_no f n (λ k. get_or xs k 0) i j h s e ∙ sym (from_place j)
+  none_from : (m i : ℕ) → ((k : ℕ) → k < i + m → eqb r (root k) ≡ false) → any (eqb r) (table_from m i root) ≡ false
+  unfolding any table_from either
+  none_from zero i e = refl
+  none_from (suc m) i e = rw (e i (omega arith)) (none_from m (suc i) (λ k l. e k (omega arith)))
 
-  pub one_nowhere : n ≤ i → any f (drop i (take n xs)) ≡ false
-  one_nowhere h = from_place i ∙ any_end f n (λ k. get_or xs k 0) i h
+  pub among_none : ((i : ℕ) → i < n → root i ≡ r → ⊥) → among (table n root) r ≡ false
+  unfolding among table
+  among_none h = none_from n 0 (λ k l. ne_eqb r (root k) (λ e. h k (omega arith) (sym e)))
 
--- the root r among them
-module _ (xs : List ℕ) (n r : ℕ) (long : n ≤ length xs) (i : ℕ) where
-  pub root_here : i < n → r ≡ get_or xs i 0 → among (drop i (take n xs)) r ≡ true
-  unfolding among
-  root_here h e = one_here (eqb r) xs n long i h (eq-eqb r (get_or xs i 0) e)
+-- an arrival whose root is r, and another
+abbrev pub Named : ℕ → Arrival → Type 0
+Named r a = a.root ≡ r
 
-  pub root_later : i < n → (r ≡ get_or xs i 0 → ⊥) → (j : ℕ) → suc i ≡ j → among (drop i (take n xs)) r ≡ among (drop j (take n xs)) r
-  unfolding among
-  root_later h e j s = one_later (eqb r) xs n long i h (ne_eqb r (get_or xs i 0) e) j s
+abbrev pub Other : ℕ → Arrival → Type 0
+Other r a = a.root ≡ r → ⊥
 
-  pub root_none : n ≤ i → among (drop i (take n xs)) r ≡ false
-  unfolding among
-  root_none h = one_nowhere (eqb r) xs n long i h
+-- the first of the arrivals whose root is r
+pub placed : (t : Arrivals) (r : ℕ) (o : Prelude.Option ℕ) →
+    MatchOption o (AllWithin (Other r) (entries t) 0 (length (entries t))) (λ i. (i < length (entries t)) × HoldsAt (Named r) (entries t) i × AllWithin (Other r) (entries t) 0 i) →
+    Placed t r o
+unfolding arrivals_of
+placed t r Prelude.None h = among_none t.count (arrival_root t) r (λ i l e.
+    h i no_arrival (omega arith) (omega (arith, entries_long t, l)) (ap (λ (a : Arrival). a.root) (entry_at t i no_arrival l) ∙ e))
+placed t r (Prelude.Some i) (l, h, rest) =
+    let low : i < t.count = omega (arith, l, entries_long t) in
+    let e : arrival_root t i ≡ r = ap (λ (a : Arrival). a.root) (sym (entry_at t i no_arrival low)) ∙ h no_arrival in
+    (low, e, among_at t.count (arrival_root t) r i low e)
 
 -- where no place is told, the root is not among them
-pub placed_none : (rs : List ℕ) (n r : ℕ) {o : Prelude.Option ℕ} → Placed rs n r o → ((i : ℕ) → o ≡ Prelude.Some i → ⊥) → among (take n rs) r ≡ false
-placed_none rs n r {o = Prelude.None} p h = p
-placed_none rs n r {o = Prelude.Some i} p h = absurd (h i refl)
+pub placed_none : (t : Arrivals) (r : ℕ) {o : Prelude.Option ℕ} → Placed t r o → ((i : ℕ) → o ≡ Prelude.Some i → ⊥) →
+    among (arrivals_of t) r ≡ false
+placed_none t r {o = Prelude.None} p h = p
+placed_none t r {o = Prelude.Some i} p h = absurd (h i refl)
 
 -- the two parts of the door, the one without a sandbox tested first
 pub fits_sound : (u s : Bool) → s ≡ true → u ≡ (u & s)

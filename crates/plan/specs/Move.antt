@@ -1,6 +1,6 @@
 -- What a step comes to, as the code has it.
 -- Assumes nothing.
-use Rattle.std.specs.Prelude.{◌≡◌, true, false, Option, None, Some, List, [], ◌∷◌, ◌++◌, ℕ, ◌<◌, get_or, take}
+use Rattle.std.specs.Prelude.{◌≡◌, true, false, Option, None, Some, List, [], ◌∷◌, ◌++◌, ℕ, ◌<◌}
 use Rattle.std.specs.Prelude as Prelude
 use Rattle.sets.specs.Lists.{splice, among}
 use Rattle.klaim.specs.Process.{Line}
@@ -8,11 +8,11 @@ use Rattle.klaim.specs.State as Spec
 use Rattle.klaim.specs.Engine.{Plan, stop, quiet, act, after}
 use Rattle.klaim.specs.Refusals.{number_of}
 use Rattle.klaim.specs.declared.Reason.{Reason}
-use Rattle.tables.specs.View.{row_at}
+use Rattle.tables.specs.View.{tuple_view}
 use Rattle.threads.specs.View.{thread_view}
 use Rattle.threads.specs.declared.Thread.{Thread}
-use Rattle.tuples.specs.Rows.{Padded}
 use Rattle.state.specs.declared.State.{State}
+use Rattle.state.specs.View.{Arrivals, arrival_root, arrivals_of}
 use Rattle.state.specs.Fits.{Fits}
 use Rattle.plan.specs.declared.Use.{Use}
 use Rattle.plan.specs.declared.Use.TheVariants.{Nothing, Right}
@@ -23,7 +23,7 @@ use Rattle.plan.specs.declared.Move.{Move}
 -- the tuples behind a step: all as they are, one appended, or tuple m taken out
 abbrev pub tuples_after : List (List ℕ) → ℕ → Change → List (List ℕ)
 tuples_after ts m Kept = ts
-tuples_after ts m (Appended row) = ts ++ (row_at row 0 ∷ [])
+tuples_after ts m (Appended t) = ts ++ (tuple_view t ∷ [])
 tuples_after ts m Taken = splice m [] ts
 
 -- the thread that is added, settled
@@ -53,20 +53,20 @@ abbrev pub IsUse : Use → Type 0
 IsUse Nothing = Unit {0}
 IsUse (Right target right) = 0 < right
 
--- of n tuples m can be taken out; a tuple that is appended has zeros behind its sites
+-- of n tuples m can be taken out
 abbrev pub IsChange : ℕ → ℕ → Change → Type 0
 IsChange m n Kept = Unit {0}
-IsChange m n (Appended row) = Padded row
+IsChange m n (Appended t) = Unit {0}
 IsChange m n Taken = m < n
 
 pub record Possible (m n : ℕ) (v : Move) : Type 0 where
   pub uses : IsUse v.uses
   pub change : IsChange m n v.change
 
--- where root r stands among the first n roots
-abbrev pub Placed : List ℕ → ℕ → ℕ → Option ℕ → Type 0
-Placed roots n r None = among (take n roots) r ≡ false
-Placed roots n r (Some i) = (i < n) × (get_or roots i 0 ≡ r) × (among (take n roots) r ≡ true)
+-- where root r stands among the roots of the arrivals
+abbrev pub Placed : Arrivals → ℕ → Option ℕ → Type 0
+Placed t r None = among (arrivals_of t) r ≡ false
+Placed t r (Some i) = (i < t.count) × (arrival_root t i ≡ r) × (among (arrivals_of t) r ≡ true)
 
 -- a state with the invariant, and a thread that can act in it
 pub record Plannable (st : State) (th : Thread) : Type 0 where

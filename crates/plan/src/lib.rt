@@ -1,24 +1,25 @@
 //! What a step of a thread comes to by the tests before 26.
 #![tactic(auto)]
 
-ghost use Rattle.std.specs.Prelude.{◌≡◌, true, cond, [], ◌∷◌, map, ℕ, suc, ◌<◌, ◌≤◌, length, get_or, take, IfOk};
+ghost use Rattle.std.specs.Prelude.{◌≡◌, true, cond, [], ◌∷◌, ℕ, ◌<◌, IfOk};
 ghost use Rattle.std.proofs.Math.ListN.{get_elem?};
 ghost use Rattle.sets.specs.Lists.{splice};
+ghost use Rattle.klaim.specs.Fields.{items};
 ghost use Rattle.klaim.specs.Process as Process;
 ghost use Rattle.klaim.specs.Process.{line_at, tree};
 ghost use Rattle.klaim.specs.Report.{door as door_of};
 ghost use Rattle.klaim.specs.State as Spec;
 ghost use Rattle.klaim.specs.Engine.{plan as plan_of, act, after, value, bind_all, to as to_line, get_plan, accept_plan};
-ghost use Rattle.tables.specs.View.{LowLoc, loc_of, slot_of, field_bytes, row_at};
+ghost use Rattle.tables.specs.View.{tuple_view};
 ghost use Rattle.threads.specs.View.{thread_view, rebound};
-ghost use Rattle.state.specs.View.{state_view};
+ghost use Rattle.state.specs.View.{arrival_root, state_view};
 ghost use Rattle.state.specs.Fits.{Fits};
 ghost use Rattle.plan.specs.Move.{plan_view, move_view, Plannable, Possible, Placed};
 
 use flow::UseMap;
-use klaim::{Loc, Reason, Slot};
+use klaim::{Fields, Loc, Reason, Slot};
 use state::{Arrivals, State};
-use tables::Action;
+use tables::{Action, Tuple, VARIABLES};
 use threads::Thread;
 
 // What a step uses: nothing, or a right on a target.
@@ -28,11 +29,11 @@ pub enum Use {
     Right { target: u8, right: u8 },
 }
 
-// What becomes of the tuples: they are kept, one is appended, given by its bytes, or the named one is taken out.
+// What becomes of the tuples: they are kept, one is appended, or the named one is taken out.
 #[derive(Clone, Copy)]
 pub enum Change {
     Kept,
-    Appended([u8; 6]),
+    Appended(Tuple),
     Taken,
 }
 
@@ -72,9 +73,8 @@ fn plan_rep(th: Thread, a: u8) -> Move
 }
 
 // out: to a; the tuple appended at the target.
-fn plan_out(state: &State, th: Thread, a: u8, target: Loc, count: u8) -> Move
-    requires { (count ≤ 4) × LowLoc target }
-    ensures value { (st : Spec.State) (k m r : ℕ) → move_view st k m result ≡ plan_of st k (thread_view th) m r (Process.Out a target (map loc_of (take count (field_bytes state.now.lines.bytes th.line)))) }
+fn plan_out(th: Thread, a: u8, target: Loc, fields: &Fields<Loc>) -> Move
+    ensures value { (st : Spec.State) (k m r : ℕ) → move_view st k m result ≡ plan_of st k (thread_view th) m r (Process.Out a target (items fields.now)) }
     ensures possible { (m n : ℕ) → Possible m n result }
 {
     Move {
@@ -84,13 +84,13 @@ fn plan_out(state: &State, th: Thread, a: u8, target: Loc, count: u8) -> Move
         },
         thread: th.to(a),
         added: None,
-        change: Change::Appended(tuples::out_row(&state.lines, th.line, count, target, &th)),
+        change: Change::Appended(tuples::made(&th, target, fields)),
     }
 }
 
 // eval: to a; b appended at the target, under sandbox d evaluated there.
 fn plan_eval(state: &State, th: Thread, a: u8, target: Loc, b: u8, d: u8) -> Move
-    requires { LowLoc target × (d < 32) }
+    requires { d < 32 }
     ensures value { (k m r : ℕ) → move_view (state_view state.now) k m result ≡ plan_of (state_view state.now) k (thread_view th) m r (Process.Eval a target b d) }
     ensures possible { (m n : ℕ) → Possible m n result }
 {
@@ -106,21 +106,19 @@ fn plan_eval(state: &State, th: Thread, a: u8, target: Loc, b: u8, d: u8) -> Mov
     }
 }
 
-// The use of tuple m, which agrees: to a with the new bindings.
+// The use of a tuple that agrees: to a with the new bindings.
 fn plan_taken(
-    state: &State,
-    m: usize,
     th: Thread,
     a: u8,
     target: Loc,
-    count: u8,
+    fields: &Fields<Slot>,
+    tuple: &Tuple,
     taken: bool,
 ) -> Move
-    requires { (m < 256) × (count ≤ 4) × LowLoc target × (length (row_at state.now.tuples.bytes m) ≡ suc count) }
-    ensures value { (st : Spec.State) (k : ℕ) → move_view st k m result ≡ act (value (thread_view th).site (thread_view th).bindings target) (cond taken 2 4) (after st k (to_line (rebound (thread_view th) (bind_all (Slot.Value target ∷ map slot_of (take count (field_bytes state.now.lines.bytes th.line))) (row_at state.now.tuples.bytes m) (thread_view th).bindings)) a) [] (cond taken (splice m [] st.tuples) st.tuples)) }
-    ensures possible { (n : ℕ) → m < n → Possible m n result }
+    ensures value { (st : Spec.State) (k m : ℕ) → move_view st k m result ≡ act (value (thread_view th).site (thread_view th).bindings target) (cond taken 2 4) (after st k (to_line (rebound (thread_view th) (bind_all (Slot.Value target ∷ items fields.now) (tuple_view tuple.now) (thread_view th).bindings)) a) [] (cond taken (splice m [] st.tuples) st.tuples)) }
+    ensures possible { (m n : ℕ) → m < n → Possible m n result }
 {
-    let bound = tuples::bind_all(&state.lines, th.line, count, &state.tuples, m, th);
+    let bound = tuples::bind_all(th, fields, tuple);
     Move {
         uses: Use::Right {
             target: th.value(target),
@@ -139,43 +137,46 @@ fn plan_get(
     th: Thread,
     a: u8,
     target: Loc,
-    count: u8,
+    fields: &Fields<Slot>,
     taken: bool,
 ) -> Result<Move, Reason>
-    requires { (state.now.tuples.count ≤ 256) × (count ≤ 4) × LowLoc target }
-    ensures value { (k : ℕ) → plan_view (state_view state.now) k m result ≡ get_plan (state_view state.now) k (thread_view th) (cond taken 2 4) a target (map slot_of (take count (field_bytes state.now.lines.bytes th.line))) (cond taken (splice m [] (state_view state.now).tuples) (state_view state.now).tuples) (get_elem? (state_view state.now).tuples m) }
+    ensures value { (k : ℕ) → plan_view (state_view state.now) k m result ≡ get_plan (state_view state.now) k (thread_view th) (cond taken 2 4) a target (items fields.now) (cond taken (splice m [] (state_view state.now).tuples) (state_view state.now).tuples) (get_elem? (state_view state.now).tuples m) }
     ensures possible { IfOk result (Possible m state.now.tuples.count) }
 {
-    if state.tuples.count <= m {
+    let Some(tuple) = state.tuples.as_slice().get(m) else {
         return Err(Reason::Tuple);
-    }
-    if !tuples::agrees(&state.lines, th.line, count, target, &state.tuples, m, &th) {
+    };
+    if !tuples::agrees(&th, target, fields, tuple) {
         return Err(Reason::Agreement);
     }
-    Ok(plan_taken(state, m, th, a, target, count, taken))
+    Ok(plan_taken(th, a, target, fields, tuple, taken))
 }
 
 // The place of root r among the roots of the arrivals, if it is one of them.
 pub fn arrival_at(arrivals: &Arrivals, r: usize) -> Option<usize>
-    requires { arrivals.now.count ≤ 256 }
-    ensures { Placed arrivals.now.roots arrivals.now.count r result }
+    ensures { Placed arrivals.now r result }
 {
-    for i in 0..arrivals.count {
-        if arrivals.roots[i] as usize == r {
-            return Some(i);
-        }
-    }
-    None
+    arrivals
+        .as_slice()
+        .iter()
+        .position(|a| usize::from(a.root) == r)
 }
 
 // The door for arrival i at site l under sandbox d: it is sound there, and its use map lies within d evaluated at l.
 pub fn admitted(state: &State, i: usize, l: u8, d: u8) -> bool
     requires { Fits state.now × (i < state.now.arrivals.count) × (l < state.now.net.size) × (d < 32) }
-    ensures { result ≡ door_of (state_view state.now).net (state_view state.now).estimate d l (tree (state_view state.now).lines (get_or state.now.arrivals.roots i 0)) }
+    ensures { result ≡ door_of (state_view state.now).net (state_view state.now).estimate d l (tree (state_view state.now).lines (arrival_root state.now.arrivals i)) }
 {
-    let q = state.arrivals.roots[i];
-    if sets::has_site(state.arrivals.sound[i], l) {
-        return door::uses_fit(&state.net, &state.estimate, &state.lines, d, l, q);
+    let arrival = state.arrivals.items[i];
+    if sets::has_site(arrival.sound, l) {
+        return door::uses_fit(
+            &state.net,
+            &state.estimate,
+            &state.lines,
+            d,
+            l,
+            arrival.root,
+        );
     }
     false
 }
@@ -187,13 +188,14 @@ fn plan_guest(state: &State, th: Thread, a: u8, d: u8, q: u8) -> Move
     ensures possible { (m n : ℕ) → Possible m n result }
 {
     let l = th.site.0;
+    let guest = Thread::under(&state.net, d, l, q, [None; VARIABLES]);
     Move {
         uses: Use::Right {
             target: l,
             right: UseMap::ACCEPT,
         },
         thread: th.to(a),
-        added: Some(Thread::under(&state.net, d, l, q, [None; 32])),
+        added: Some(guest),
         change: Change::Kept,
     }
 }
@@ -210,7 +212,7 @@ fn plan_accept(state: &State, th: Thread, a: u8, d: u8, r: usize) -> Result<Move
     if !admitted(state, i, th.site.0, d) {
         return Err(Reason::Door);
     }
-    Ok(plan_guest(state, th, a, d, state.arrivals.roots[i]))
+    Ok(plan_guest(state, th, a, d, state.arrivals.items[i].root))
 }
 
 // What a step of thread th comes to: m names a tuple, r an arrival's root.
@@ -226,18 +228,18 @@ pub fn plan(state: &State, th: Thread, m: usize, r: usize) -> Result<Move, Reaso
         Action::Out {
             next,
             target,
-            count,
-        } => Ok(plan_out(state, th, next, target, count)),
+            fields,
+        } => Ok(plan_out(th, next, target, &fields)),
         Action::In {
             next,
             target,
-            count,
-        } => plan_get(state, m, th, next, target, count, true),
+            fields,
+        } => plan_get(state, m, th, next, target, &fields, true),
         Action::Read {
             next,
             target,
-            count,
-        } => plan_get(state, m, th, next, target, count, false),
+            fields,
+        } => plan_get(state, m, th, next, target, &fields, false),
         Action::Eval {
             next,
             target,

@@ -2,7 +2,9 @@
 -- Assumes nothing.
 use mathlib.Core.Path.{◌≡◌, sym, ap, ◌∙◌}
 use mathlib.Core.Bool.{Bool, true, false}
+use mathlib.Core.List.{List}
 use Prim.Native.Nat.{ℕ, ◌<◌, ◌≤◌}
+use lib.ListN.{length, get_or}
 use borrow.Author.Tests.{le-ltb}
 use Rattle.sets.specs.Lists.{among}
 use Rattle.sets.proofs.Lists.{lt-ltb}
@@ -11,24 +13,22 @@ use Rattle.klaim.specs.Report.{door}
 use Rattle.klaim.specs.Reader.{refused, gives}
 use Rattle.klaim.specs.State as Spec
 use Rattle.klaim.specs.Engine.{door_alone, runnable}
-use Rattle.tables.specs.View.{field_bytes, action_line, Decoded}
+use Rattle.tables.specs.Entries.{entries}
+use Rattle.tables.specs.View.{action_line, ActionAt}
 use Rattle.tables.specs.declared.Action.{Action}
 use Rattle.threads.specs.declared.Thread.{Thread}
-use Rattle.threads.specs.View.{no_thread, thread_view}
+use Rattle.threads.specs.View.{Threads, no_thread, thread_view}
 use Rattle.state.specs.declared.State.{State}
 use Rattle.state.specs.View.{state_view}
 use Rattle.state.specs.Fits.{Fits}
 use Rattle.plan.specs.Move.{Plannable}
+use Rattle.plan.proofs.Entries.{entries_long, entry_at}
 use Rattle.plan.proofs.Fitted.{thread_here, line_here}
 use Rattle.ready.specs.Runs.{runs}
 use Rattle.ready.proofs.Runnable.{runnable_is}
-use lib.ListN.{length, get_or, take}
-use lib.Seq.{length-take-le, get_or-take}
-use native.Mathlib.Omega.{arith}
-use mathlib.Core.List.{List}
 
 -- the test for the line that a thread stands on, from that for its action
-pub runs_at : {st : State} {th : Thread} → Plannable st th → {r : Action} → Decoded st.lines.bytes th.line r → {x : Action} → r ≡ x → {b : Bool} → b ≡ runs (state_view st) (thread_view th) (action_line x (field_bytes st.lines.bytes th.line)) → b ≡ runs (state_view st) (thread_view th) (line_at (state_view st).lines th.line)
+pub runs_at : {st : State} {th : Thread} → Plannable st th → {r : Action} → ActionAt st.lines th.line r → {x : Action} → r ≡ x → {b : Bool} → b ≡ runs (state_view st) (thread_view th) (action_line x) → b ≡ runs (state_view st) (thread_view th) (line_at (state_view st).lines th.line)
 runs_at {st} {th} p d e h = h ∙ sym (ap (runs (state_view st) (thread_view th)) (line_here p d e))
 
 -- thread k can make a bare step where the test says so
@@ -36,16 +36,19 @@ pub runnable_at : {st : State} (f : Fits st) (k : ℕ) → k < st.threads.count 
 runnable_at {st} f k h e = runnable_is (state_view st) f.invariant k (thread_view (get_or st.threads.items k no_thread)) (thread_here f k h) ∙ sym e
 
 -- the threads that are lent
-module _ (st : State) {ts : List Thread} where
-  pub lent_count : Fits st → ts ≡ take st.threads.count st.threads.items → length ts ≡ st.threads.count
-  lent_count f e = ap length e ∙ length-take-le st.threads.count st.threads.items (omega (arith, f.threads_long, f.threads_few))
+module _ (ts : Threads) {lent : List Thread} (e : lent ≡ entries ts) where
+  pub lent_count : length lent ≡ ts.count
+  lent_count = ap (λ (xs : List Thread). length xs) e ∙ entries_long ts
 
-  pub lent_thread : ts ≡ take st.threads.count st.threads.items → (k : ℕ) → k < st.threads.count → get_or ts k no_thread ≡ get_or st.threads.items k no_thread
-  lent_thread e k h = ap (λ (xs : List Thread). get_or xs k no_thread) e ∙ get_or-take st.threads.count st.threads.items k no_thread h
+  pub lent_thread : (k : ℕ) → k < ts.count → get_or lent k no_thread ≡ get_or ts.items k no_thread
+  lent_thread k h = ap (λ (xs : List Thread). get_or xs k no_thread) e ∙ entry_at ts k no_thread h
 
 -- a lent thread can make a bare step where the test says so
-pub lent_runnable : {st : State} {ts : List Thread} (f : Fits st) → ts ≡ take st.threads.count st.threads.items → (k : ℕ) → k < st.threads.count → {b : Bool} → b ≡ runs (state_view st) (thread_view (get_or ts k no_thread)) (line_at (state_view st).lines (get_or ts k no_thread).line) → runnable (state_view st) k ≡ b
-lent_runnable {st} {ts} f e k h q = runnable_at f k h (q ∙ ap (λ (th : Thread). runs (state_view st) (thread_view th) (line_at (state_view st).lines th.line)) (lent_thread st e k h))
+pub lent_runnable : {st : State} {lent : List Thread} (f : Fits st) → lent ≡ entries st.threads → (k : ℕ) → k < st.threads.count → {b : Bool} →
+    b ≡ runs (state_view st) (thread_view (get_or lent k no_thread)) (line_at (state_view st).lines (get_or lent k no_thread).line) →
+    runnable (state_view st) k ≡ b
+lent_runnable {st} f e k h q =
+    runnable_at f k h (q ∙ ap (λ (th : Thread). runs (state_view st) (thread_view th) (line_at (state_view st).lines th.line)) (lent_thread st.threads e k h))
 
 -- the door called by itself, test by test
 module _ (st : Spec.State) (r l d : ℕ) where

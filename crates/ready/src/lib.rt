@@ -1,21 +1,23 @@
 //! The door called by itself, and the lowest thread that can make a bare step.
 #![tactic(auto)]
 
-ghost use Rattle.std.specs.Prelude.{◌≡◌, Bool, map, ℕ, ◌<◌, ◌≤◌, get_or, take};
+ghost use Rattle.std.specs.Prelude.{◌≡◌, Bool, ℕ, ◌<◌, ◌≤◌};
 ghost use Rattle.sets.specs.Lists.{◌&◌, any};
 ghost use Rattle.sets.specs.Options.{option_of};
+ghost use Rattle.klaim.specs.Fields.{items};
 ghost use Rattle.klaim.specs.Process.{line_at, tree};
 ghost use Rattle.klaim.specs.Refusals.{answer_of};
 ghost use Rattle.klaim.specs.Report.{door as door_of};
 ghost use Rattle.klaim.specs.Engine.{agrees as agrees_of, door_alone, ready as ready_of};
-ghost use Rattle.tables.specs.View.{lines_of, slot_of, field_bytes, LowLoc};
+ghost use Rattle.tables.specs.Entries.{entries};
+ghost use Rattle.tables.specs.View.{lines_of};
 ghost use Rattle.threads.specs.View.{thread_view};
 ghost use Rattle.plan.specs.Move.{Plannable};
-ghost use Rattle.state.specs.View.{state_view};
+ghost use Rattle.state.specs.View.{arrival_root, state_view};
 ghost use Rattle.state.specs.Fits.{Fits};
 ghost use Rattle.ready.specs.Runs.{standing, room as room_of, welcome, runs as runs_of};
 
-use klaim::{Loc, Reason, Refusal};
+use klaim::{Fields, Loc, Reason, Refusal, Slot};
 use state::State;
 use tables::{Action, Lines};
 use threads::Thread;
@@ -29,7 +31,6 @@ fn stands(lines: &Lines, q: u8) -> usize
 
 // Whether the thread list stays within its limit where one of its threads comes to line a, and one is appended on line b.
 fn has_room(state: &State, a: u8, b: u8) -> bool
-    requires { state.now.threads.count ≤ 64 }
     ensures { result ≡ room_of state.now.threads.count (state_view state.now).lines a b }
 {
     let stay = stands(&state.lines, a);
@@ -37,25 +38,23 @@ fn has_room(state: &State, a: u8, b: u8) -> bool
     state.threads.count + stay + come <= tables::THREADS + 1
 }
 
-// Whether one of the tuples agrees with the template of the thread's line.
-fn some_agrees(state: &State, th: &Thread, target: Loc, count: u8) -> bool
-    requires { (state.now.tuples.count ≤ 256) × (count ≤ 4) × LowLoc target }
-    ensures { result ≡ any (agrees_of (thread_view th.now) target (map slot_of (take count (field_bytes state.now.lines.bytes th.now.line)))) (state_view state.now).tuples }
+// Whether one of the tuples agrees with a template.
+fn some_agrees(state: &State, th: &Thread, target: Loc, fields: &Fields<Slot>) -> bool
+    ensures { result ≡ any (agrees_of (thread_view th.now) target (items fields.now)) (state_view state.now).tuples }
 {
-    for m in 0..state.tuples.count {
-        if tuples::agrees(&state.lines, th.line, count, target, &state.tuples, m, th) {
-            return true;
-        }
-    }
-    false
+    state
+        .tuples
+        .as_slice()
+        .iter()
+        .any(|tuple| tuples::agrees(th, target, fields, tuple))
 }
 
 // Whether arrival i passes the door at the thread's site under sandbox d, and there is room for it where the thread comes to line a.
 fn welcomes(state: &State, th: &Thread, a: u8, d: u8, i: usize) -> bool
     requires { Fits state.now × (i < state.now.arrivals.count) × (th.now.site.0 < state.now.net.size) × (d < 32) }
-    ensures { result ≡ welcome (state_view state.now) (thread_view th.now) a d (get_or state.now.arrivals.roots i 0) }
+    ensures { result ≡ welcome (state_view state.now) (thread_view th.now) a d (arrival_root state.now.arrivals i) }
 {
-    if has_room(state, a, state.arrivals.roots[i]) {
+    if has_room(state, a, state.arrivals.items[i].root) {
         return plan::admitted(state, i, th.site.0, d);
     }
     false
@@ -66,12 +65,7 @@ fn some_guest(state: &State, th: &Thread, a: u8, d: u8) -> bool
     requires { Fits state.now × (th.now.site.0 < state.now.net.size) × (d < 32) }
     ensures { result ≡ any (welcome (state_view state.now) (thread_view th.now) a d) (state_view state.now).arrivals }
 {
-    for i in 0..state.arrivals.count {
-        if welcomes(state, th, a, d, i) {
-            return true;
-        }
-    }
-    false
+    (0..state.arrivals.count).any(|i| welcomes(state, th, a, d, i))
 }
 
 // Whether thread th can make a bare step.
@@ -89,8 +83,8 @@ fn can_step(state: &State, th: &Thread) -> bool
         } => has_room(state, next, more),
         Action::Rep { next } => has_room(state, th.line, next),
         Action::Out { .. } => state.tuples.count < tables::TUPLES,
-        Action::In { target, count, .. } | Action::Read { target, count, .. } => {
-            some_agrees(state, th, target, count)
+        Action::In { target, fields, .. } | Action::Read { target, fields, .. } => {
+            some_agrees(state, th, target, &fields)
         }
         Action::Accept { next, sandbox } => some_guest(state, th, next, sandbox),
     }
@@ -98,7 +92,7 @@ fn can_step(state: &State, th: &Thread) -> bool
 
 // The lowest place of a lent thread that can make a bare step.
 fn first(state: &State, threads: &[Thread]) -> Option<u8>
-    requires { Fits state.now × (threads.now ≡ take state.now.threads.count state.now.threads.items) }
+    requires { Fits state.now × (threads.now ≡ entries state.now.threads) }
     ensures { option_of (λ (k : ℕ). k) result ≡ ready_of (state_view state.now) }
 {
     for k in 0..threads.len() {
@@ -114,7 +108,7 @@ pub fn ready(state: &State) -> Option<u8>
     requires { Fits state.now }
     ensures { option_of (λ (k : ℕ). k) result ≡ ready_of (state_view state.now) }
 {
-    first(state, &state.threads.items[..state.threads.count])
+    first(state, state.threads.as_slice())
 }
 
 // The door called by itself: whether the arrival whose root is line r passes at site l under sandbox d. 24 for the root, then 4 for
@@ -126,7 +120,7 @@ pub fn door(state: &State, r: usize, l: usize, d: usize) -> Result<bool, Refusal
     let Some(i) = plan::arrival_at(&state.arrivals, r) else {
         return Err(Refusal::from(Reason::Arrival));
     };
-    if state.net.size as usize <= l {
+    if usize::from(state.net.size) <= l {
         return Err(Refusal::from(Reason::Site));
     }
     if tables::SANDBOXES <= d {

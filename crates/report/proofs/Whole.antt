@@ -33,10 +33,11 @@ module _ (t : Roots) {xs : List Entry} (e : xs ≡ take t.count t.items) where
   root_read i h = ap (λ (ys : List Entry). root_view (get_or ys i no_root)) e ∙ ap root_view (get_or-take t.count t.items i no_root (omega (arith, roots_long)))
 
   pub root_fits : {ls : Lines} → Rooted ls t → (i : ℕ) → i < length xs → ((get_or xs i no_root).site < 32) × InForm ls (get_or xs i no_root).line
-  root_fits R i h =
+  root_fits {ls = ls} R i h =
       let at = root_read i h in
       let here : i < t.count = omega (arith, roots_long) in
-      (omega (arith, ap (λ (r : Root). r.site) at, R.placed i here), record { in_order = R.in_order; present = omega (arith, ap (λ (r : Root). r.line) at, R.present i here) })
+      let present : (get_or xs i no_root).line < ls.count = omega (arith, ap (λ (r : Root). r.line) at, R.present i here) in
+      (omega (arith, ap (λ (r : Root). r.site) at, R.placed i here), record { in_order = R.in_order; present = present })
 
 module _ (N : Net) (E : Estimate) where
   own_home : (site s t x : ℕ) → grant (eqb site s) (less x (home N site t)) ≡ grant (eqb site s) (less x (home N s t))
@@ -84,17 +85,29 @@ module _ (N : Net) (E : Estimate) where
   far_at rs i s t = shuffle _ _ _ _ _ ∙ sym (ap₂ (λ (x y : ℕ). join x (join y (hold_adds N E s t))) (joins_last (λ r. root_adds N E r s t) (root_at rs) i) (joins_last (λ r. adds N E (place_set r.site) (process N r) s t) (root_at rs) i))
 
   -- one root more: its use map, then its eval lines
-  pub far_more : (rs : Roots) (i : ℕ) (root : Root) {m : ℕ} {a b c : List ℕ} → root ≡ root_at rs i → m ≡ 2 ^ root.site → a ≡ table 1024 (λ k. so_far (table i (root_at rs)) (k / 32) (k % 32)) → b ≡ table 1024 (λ k. join (get_or a k 0) (root_adds N E root (k / 32) (k % 32))) → c ≡ table 1024 (λ k. join (get_or b k 0) (adds N E m (tree N.lines root.line) (k / 32) (k % 32))) → c ≡ table 1024 (λ k. so_far (table (i + 1) (root_at rs)) (k / 32) (k % 32))
-  unfolding place_set
-  far_more rs i root {m} {a} {b} u e x y z = z ∙ same_table 1024 _ _ 0 (λ k l. ap₂ join (second k l) (third k) ∙ far_at rs i (k / 32) (k % 32))
-    where
-      second : (k : ℕ) → k < 1024 → get_or b k 0 ≡ join (so_far (table i (root_at rs)) (k / 32) (k % 32)) (root_adds N E (root_at rs i) (k / 32) (k % 32))
-      second k l =
-          at_table 1024 (λ k. join (get_or a k 0) (root_adds N E root (k / 32) (k % 32))) y k l
-          ∙ ap₂ join (at_table 1024 (λ k. so_far (table i (root_at rs)) (k / 32) (k % 32)) x k l) (ap (λ (r : Root). root_adds N E r (k / 32) (k % 32)) u)
+  module _ (rs : Roots) (i : ℕ) (root : Root) (u : root ≡ root_at rs i) where
+    abbrev so_far_at : ℕ → ℕ → ℕ
+    so_far_at j k = so_far (table j (root_at rs)) (k / 32) (k % 32)
 
-      third : (k : ℕ) → adds N E m (tree N.lines root.line) (k / 32) (k % 32) ≡ adds N E (2 ^ (root_at rs i).site) (tree N.lines (root_at rs i).line) (k / 32) (k % 32)
-      third k = ap (λ (w : ℕ). adds N E w (tree N.lines root.line) (k / 32) (k % 32)) e ∙ ap (λ (r : Root). adds N E (2 ^ r.site) (tree N.lines r.line) (k / 32) (k % 32)) u
+    abbrev own : Root → ℕ → ℕ
+    own r k = root_adds N E r (k / 32) (k % 32)
+
+    abbrev sent : ℕ → Root → ℕ → ℕ
+    sent P r k = adds N E P (tree N.lines r.line) (k / 32) (k % 32)
+
+    pub far_more : {m : ℕ} {a b c : List ℕ} → m ≡ 2 ^ root.site
+        → a ≡ table 1024 (so_far_at i)
+        → b ≡ table 1024 (λ k. join (get_or a k 0) (own root k))
+        → c ≡ table 1024 (λ k. join (get_or b k 0) (sent m root k))
+        → c ≡ table 1024 (so_far_at (i + 1))
+    unfolding place_set
+    far_more {m} {a} {b} e x y z = z ∙ same_table 1024 _ _ 0 (λ k l. ap₂ join (second k l) (third k) ∙ far_at rs i (k / 32) (k % 32))
+      where
+        second : (k : ℕ) → k < 1024 → get_or b k 0 ≡ join (so_far_at i k) (own (root_at rs i) k)
+        second k l = at_table 1024 _ y k l ∙ ap₂ join (at_table 1024 (so_far_at i) x k l) (ap (λ (r : Root). own r k) u)
+
+        third : (k : ℕ) → sent m root k ≡ sent (2 ^ (root_at rs i).site) (root_at rs i) k
+        third k = ap (λ (P : ℕ). sent P root k) e ∙ ap (λ (r : Root). sent (2 ^ r.site) r k) u
 
   pub far_all : table 1024 (λ k. so_far N.roots (k / 32) (k % 32)) ≡ report N E
   unfolding report report_at so_far

@@ -1,11 +1,10 @@
 -- What a start comes to.
 -- Assumes nothing.
-use Rattle.std.specs.Prelude.{◌≡◌, List, ℕ, ◌<◌, ◌≤◌, IfOk, Result}
+use Rattle.std.specs.Prelude.{◌≡◌, List, ℕ, ◌<◌, IfOk, Result}
 use Rattle.klaim.specs.Refusals.{answer_of}
 use Rattle.klaim.specs.State as Spec
 use Rattle.klaim.specs.declared.Refusal.{Refusal}
-use Rattle.tables.specs.declared.Roots.{Roots}
-use Rattle.tables.specs.View.{root_at}
+use Rattle.tables.specs.View.{Roots, root_at}
 use Rattle.state.specs.declared.State.{State}
 use Rattle.state.specs.View.{state_view}
 use Rattle.state.specs.Fits.{Fits}
@@ -17,5 +16,4 @@ pub record Started (net estimate : List ℕ) (begun : Result State Refusal) : Ty
 
 -- each of the roots stands at one of 32 sites
 pub record RootsPlaced (roots : Roots) : Type 0 where
-  pub few : roots.count ≤ 64
-  pub placed : (i : ℕ) → i < roots.count → (root_at roots.bytes i).site < 32
+  pub placed : (i : ℕ) → i < roots.count → (root_at roots i).site < 32

@@ -1,11 +1,11 @@
 //! How the engine begins, from the bytes of a net and an estimate.
 #![tactic(auto)]
 
-ghost use Rattle.std.specs.Prelude.{◌≡◌, [], ℕ, ◌<◌, ◌≤◌, length};
+ghost use Rattle.std.specs.Prelude.{◌≡◌, [], ◌<◌};
 ghost use Rattle.sets.specs.Lists.{concat};
 ghost use Rattle.klaim.specs.State.{settle, root_thread, begin as begin_of};
 ghost use Rattle.klaim.specs.Invariant.{Invariant};
-ghost use Rattle.tables.specs.View.{net_view, lines_of, roots_of, root_at};
+ghost use Rattle.tables.specs.View.{net_view, lines_of, roots_of, root_view};
 ghost use Rattle.threads.specs.View.{thread_view, threads_of};
 ghost use Rattle.worlds.specs.World.{world_view};
 ghost use Rattle.state.specs.View.{state_view};
@@ -13,51 +13,49 @@ ghost use Rattle.state.specs.Fits.{Fits};
 ghost use Rattle.starts.specs.Started.{Started, RootsPlaced};
 
 use klaim::{Refusal, Site};
-use state::{Arrivals, Event, State};
-use tables::Net;
+use state::{Arrival, Event, State};
+use tables::{Net, Root, SITES, Table, VARIABLES};
 use threads::{Thread, Threads};
 use worlds::World;
 
-// The thread of root i: under the home policy of its site, nothing bound.
-fn root_thread(net: &Net, i: usize) -> Thread
-    requires { (i < 64) × ((root_at net.now.roots.bytes i).site < 32) }
-    ensures { thread_view result ≡ root_thread (net_view net.now) (root_at net.now.roots.bytes i) }
+// The thread of a root: under the home policy of its site, nothing bound.
+fn root_thread(net: &Net, root: Root) -> Thread
+    requires { root.site < 32 }
+    ensures { thread_view result ≡ root_thread (net_view net.now) (root_view root) }
 {
-    let site = net.roots.site(i);
     Thread {
-        site: Site(site),
-        policy: threads::home_policy(net, site),
-        line: net.roots.line(i),
-        bindings: [None; 32],
+        site: Site(root.site),
+        policy: threads::home_policy(net, root.site),
+        line: root.line,
+        bindings: [None; VARIABLES],
     }
 }
 
 // No threads.
 fn no_threads() -> Threads
-    ensures { (result.count ≡ 0) × (threads_of result ≡ []) × (length result.items ≡ 64) }
+    ensures list { threads_of result ≡ [] }
+    ensures count { result.count ≡ 0 }
 {
-    let th = Thread {
+    Table::empty(Thread {
         site: Site(0),
-        policy: [0; 32],
+        policy: [0; SITES],
         line: 0,
-        bindings: [None; 32],
-    };
-    Threads {
-        items: [th; 64],
-        count: 0,
-    }
+        bindings: [None; VARIABLES],
+    })
 }
 
 // The threads of the roots, in order.
 fn root_threads(net: &Net) -> Threads
     requires { RootsPlaced net.now.roots }
-    ensures list { threads_of result ≡ concat (λ x. settle (lines_of net.now.lines) (root_thread (net_view net.now) x)) (roots_of net.now.roots) }
-    ensures few { result.count ≤ 64 }
-    ensures long { length result.items ≡ 64 }
+    ensures { threads_of result ≡ concat (λ x. settle (lines_of net.now.lines) (root_thread (net_view net.now) x)) (roots_of net.now.roots) }
 {
     let mut threads = no_threads();
     for i in 0..net.roots.count {
-        threads.enter(&net.lines, root_thread(net, i));
+        threads::enter(
+            &mut threads,
+            &net.lines,
+            root_thread(net, net.roots.items[i]),
+        );
     }
     threads
 }
@@ -73,11 +71,7 @@ fn begin(w: World) -> State
         net: w.net,
         estimate: w.estimate,
         lines: w.net.lines,
-        arrivals: Arrivals {
-            roots: [0; 256],
-            sound: [0; 256],
-            count: 0,
-        },
+        arrivals: Table::empty(Arrival { root: 0, sound: 0 }),
         tuples: w.net.tuples,
         threads,
         told: Ok(Event::Silent),

@@ -21,11 +21,10 @@ use Rattle.klaim.specs.Engine.{Event, Result, Plan, after, plan, permits, refuse
 use Rattle.klaim.specs.Invariant.{Invariant}
 use Rattle.klaim.specs.State as Spec
 use Rattle.klaim.proofs.Invariant.{step_keeps}
-use Rattle.tables.specs.declared.Tuples.{Tuples}
-use Rattle.tables.specs.View.{tuples_of, row_at}
+use Rattle.tables.specs.declared.Tuple.{Tuple}
+use Rattle.tables.specs.View.{Tuples, tuple_view, tuples_of}
 use Rattle.tuples.proofs.Rows.{rows_long}
-use Rattle.threads.specs.declared.Threads.{Threads}
-use Rattle.threads.specs.View.{no_thread, thread_view, threads_of}
+use Rattle.threads.specs.View.{Threads, no_thread, thread_view, threads_of}
 use Rattle.threads.proofs.Laws.{thread_none}
 use Rattle.sets.proofs.Splice.{splice_long}
 use Rattle.state.specs.declared.Event.{Event as Outcome}
@@ -57,23 +56,23 @@ pub taken_less : {n : ℕ} (m : ℕ) (ts : List (List ℕ)) → length ts ≡ n 
 taken_less {n} m ts l h = omega (arith, splice_long m [] ts (omega (arith, l, h)), l)
 
 -- there is room for the tuple that is appended
-pub room_more : (ts : Tuples) (m : ℕ) {c : Change} {row : List ℕ} → c ≡ Appended row → length (tuples_after (tuples_of ts) m c) ≤ 256 → ts.count + 1 ≤ 256
-room_more ts m {c} {row} e h =
-    let more : length (tuples_of ts ++ (row_at row 0 ∷ [])) ≤ 256 = subst (λ (x : Change). length (tuples_after (tuples_of ts) m x) ≤ 256) e h in
-    omega (arith, more, length-append (tuples_of ts) (row_at row 0 ∷ []), rows_long ts.count ts.bytes)
+pub room_more : (ts : Tuples) (m : ℕ) {c : Change} (t : Tuple) → c ≡ Appended t → length (tuples_after (tuples_of ts) m c) ≤ 256 → ts.count < 256
+room_more ts m t e h =
+    let more : length (tuples_of ts ++ (tuple_view t ∷ [])) ≤ 256 = subst (λ (x : Change). length (tuples_after (tuples_of ts) m x) ≤ 256) e h in
+    omega (arith, more, length-append (tuples_of ts) (tuple_view t ∷ []), rows_long ts)
 
 -- how many threads there are behind a move
-pub threads_long : (st : State) (f : Fits st) (k m : ℕ) (v : Move) → k < st.threads.count → st.threads.count - 1 + length (Spec.settle (state_view st).lines (thread_view v.thread)) + length (added_after (state_view st).lines v.added) ≡ length (state_after (state_view st) k m v).threads
+pub threads_long : (st : State) (k m : ℕ) (v : Move) → k < st.threads.count → st.threads.count - 1 + length (Spec.settle (state_view st).lines (thread_view v.thread)) + length (added_after (state_view st).lines v.added) ≡ length (state_after (state_view st) k m v).threads
 unfolding after
-threads_long st f k m v h =
+threads_long st k m v h =
     let ts = (state_view st).threads in
-    omega (arith, length-append (splice k (Spec.settle (state_view st).lines (thread_view v.thread)) ts) (added_after (state_view st).lines v.added), splice_long k (Spec.settle (state_view st).lines (thread_view v.thread)) ts (omega (arith, threads_count f)), threads_count f)
+    omega (arith, length-append (splice k (Spec.settle (state_view st).lines (thread_view v.thread)) ts) (added_after (state_view st).lines v.added), splice_long k (Spec.settle (state_view st).lines (thread_view v.thread)) ts (omega (arith, threads_count st)), threads_count st)
 
 -- a step by its tests
 module _ (guarded : Bool) {st : State} (f : Fits st) (k m r : ℕ) where
   pub step_none : st.threads.count ≤ k → step guarded (state_view st) k m r ≡ refuse 21 0 (state_view st)
   unfolding step step_of state_view
-  step_none h = rw (thread_none st.threads.count st.threads.items k h (omega (arith, f.threads_long, f.threads_few)))
+  step_none h = rw (thread_none st.threads k h)
 
   module _ (h : k < st.threads.count) where
     abbrev th : Spec.Thread
@@ -135,6 +134,6 @@ unfolding result_view
 stepped_yes {guarded} {st} f {k} {m} {r} {v} {next} a p = record {
   result = ap₂ (λ (x : Answer Event) (s : Spec.State). record { answer = x; state = s }) p.answer p.state ∙ sym a.result;
   fits = subst Fits (sym p.kept)
-      (fits_on st next.tuples next.threads next.told f p.tuples_long p.threads_long p.threads_few
+      (fits_on st next.tuples next.threads next.told f
       (subst (λ (x : State). Invariant (state_view x)) p.kept (subst Invariant (ap (λ (x : Result). x.state) a.result ∙ sym p.state) (step_keeps guarded (state_view st) k m r f.invariant))));
 }

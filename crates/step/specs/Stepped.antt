@@ -59,9 +59,6 @@ pub record Performed (st : State) (k m : ℕ) (v : Move) (next : State) : Type 0
   pub kept : next ≡ gone_on st next.tuples next.threads next.told
   pub state : state_view next ≡ state_after (state_view st) k m v
   pub answer : answer_view next.told ≡ gives (event_of (site_at st k) v.uses)
-  pub tuples_long : length next.tuples.bytes ≡ 1536
-  pub threads_long : length next.threads.items ≡ 64
-  pub threads_few : next.threads.count ≤ 64
 
 -- a step was made: the answer and the state are those of document 01, and the invariant is kept
 pub record Stepped (guarded : Bool) (st : State) (k m r : ℕ) (next : State) : Type 0 where

@@ -23,7 +23,7 @@ fn permitted(net: &Net, th: Thread, t: u8, right: u8) -> bool
     requires { (th.site.0 < 32) × (0 < right) }
     ensures { result ≡ permits_of (net_view net.now) (thread_view th) t right }
 {
-    if t < (tables::SITES as u8) {
+    if usize::from(t) < tables::SITES {
         return th.permits(net, t, right);
     }
     false
@@ -55,7 +55,7 @@ fn entering(lines: &Lines, th: Thread) -> usize
 
 // How many threads there are behind a move of one of them.
 fn threads_behind(state: &State, v: &Move) -> usize
-    requires { (0 < state.now.threads.count) × (state.now.threads.count ≤ 64) }
+    requires { 0 < state.now.threads.count }
     ensures { result ≡ state.now.threads.count - 1 + length (settle_in (state_view state.now).lines (thread_view v.now.thread)) + length (added_after (state_view state.now).lines v.now.added) }
 {
     let left = state.threads.count - 1 + entering(&state.lines, v.thread);
@@ -126,27 +126,22 @@ fn add(threads: &mut Threads, lines: &Lines, added: Option<Thread>)
     requires { threads.old.count + length (added_after (lines_of lines.now) added) ≤ 64 }
     ensures list { threads_of threads.new ≡ threads_of threads.old ++ added_after (lines_of lines.now) added }
     ensures count { threads.new.count ≡ threads.old.count + length (added_after (lines_of lines.now) added) }
-    ensures long { length threads.old.items ≡ 64 → length threads.new.items ≡ 64 }
 {
     if let Some(th) = added {
-        threads.enter(lines, th);
+        threads::enter(threads, lines, th);
     }
 }
 
 // The tuples behind a change.
 fn change_tuples(tuples: &mut Tuples, m: usize, change: Change)
-    requires { IsChange m tuples.old.count change × (tuples.old.count ≤ 256) × (length (tuples_after (tuples_of tuples.old) m change) ≤ 256) }
+    requires { IsChange m tuples.old.count change × (length (tuples_after (tuples_of tuples.old) m change) ≤ 256) }
     ensures list { tuples_of tuples.new ≡ tuples_after (tuples_of tuples.old) m change }
-    ensures table { TableAfter tuples.old.bytes tuples.old.count m tuples.new.count tuples.new.bytes }
-    ensures long { length tuples.new.bytes ≡ 1536 }
+    ensures table { TableAfter tuples.old m tuples.new }
 {
     match change {
         Change::Kept => {}
-        Change::Appended(row) => {
-            places::put_at(&mut tuples.bytes, tuples.count, row);
-            tuples.count += 1;
-        }
-        Change::Taken => tuples::remove(tuples, m),
+        Change::Appended(tuple) => tuples.push(tuple),
+        Change::Taken => tuples.remove(m),
     }
 }
 
@@ -154,10 +149,10 @@ fn change_tuples(tuples: &mut Tuples, m: usize, change: Change)
 fn perform(state: &mut State, k: usize, m: usize, v: Move)
     requires { Fits state.old × Movable state.old k m v }
     ensures performed { Performed state.old k m v state.new }
-    ensures table { TableAfter state.old.tuples.bytes state.old.tuples.count m state.new.tuples.count state.new.tuples.bytes }
+    ensures table { TableAfter state.old.tuples m state.new.tuples }
 {
     let site = state.threads.items[k].site.0;
-    state.threads.settle(&state.lines, k, v.thread);
+    threads::settle(&mut state.threads, &state.lines, k, v.thread);
     add(&mut state.threads, &state.lines, v.added);
     change_tuples(&mut state.tuples, m, v.change);
     state.told = Ok(event(site, v.uses));
@@ -168,7 +163,7 @@ fn perform(state: &mut State, k: usize, m: usize, v: Move)
 pub fn step(state: &mut State, guarded: bool, k: usize, m: usize, r: usize)
     requires { Fits state.old }
     ensures stepped { Stepped guarded state.old k m r state.new }
-    ensures table { TableAfter state.old.tuples.bytes state.old.tuples.count m state.new.tuples.count state.new.tuples.bytes }
+    ensures table { TableAfter state.old.tuples m state.new.tuples }
 {
     match decide(state, guarded, k, m, r) {
         Ok(v) => perform(state, k, m, v),

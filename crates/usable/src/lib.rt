@@ -8,21 +8,21 @@ ghost use Rattle.klaim.specs.Net.{holds};
 ghost use Rattle.klaim.specs.Analysis.{place_set, process};
 ghost use Rattle.klaim.specs.Report.{uses};
 ghost use Rattle.klaim.specs.Listing.{usable as usable_of, used_count};
-ghost use Rattle.tables.specs.View.{root_at, roots_of, net_view, estimate_view, world_of};
+ghost use Rattle.tables.specs.View.{root_view, roots_of, net_view, estimate_view, world_of, InForm};
 ghost use Rattle.report.specs.Given.{Rooted};
 
 use flow::UseMap;
 use std::array;
-use tables::{Estimate, Net};
+use tables::{Estimate, Net, Root, SITES};
 
-// The use map of root i, if it runs at site s; else the empty one.
-fn root_uses(net: &Net, estimate: &Estimate, i: usize, s: u8) -> UseMap
-    requires { Rooted net.now.lines net.now.roots × (i < net.now.roots.count) × (s < 32) }
-    ensures { result.rights ≡ table 32 (λ t. grant (eqb (root_at net.now.roots.bytes i).site s) (uses (net_view net.now) (estimate_view estimate.now) (place_set s) (process (net_view net.now) (root_at net.now.roots.bytes i)) t)) }
+// The use map of a root, if it runs at site s; else the empty one.
+fn root_uses(net: &Net, estimate: &Estimate, root: Root, s: u8) -> UseMap
+    requires { InForm net.now.lines root.line × (s < 32) }
+    ensures { result.rights ≡ table 32 (λ t. grant (eqb root.site s) (uses (net_view net.now) (estimate_view estimate.now) (place_set s) (process (net_view net.now) (root_view root)) t)) }
 {
-    if net.roots.site(i) == s {
+    if root.site == s {
         let places = sets::single(s);
-        return flow::use_map(net, estimate, &net.lines, places, net.roots.line(i));
+        return flow::use_map(net, estimate, &net.lines, places, root.line);
     }
     UseMap::empty()
 }
@@ -32,15 +32,15 @@ fn site_uses(net: &Net, estimate: &Estimate, s: u8) -> UseMap
     requires { Rooted net.now.lines net.now.roots × (s < 32) }
     ensures { result.rights ≡ table 32 (λ t. joins (λ x. grant (eqb x.site s) (uses (net_view net.now) (estimate_view estimate.now) (place_set s) (process (net_view net.now) x) t)) (roots_of net.now.roots)) }
 {
-    let mut r = UseMap::empty();
-    for i in (0..net.roots.count).rev() {
-        r = root_uses(net, estimate, i, s).join(r);
+    let mut joined = UseMap::empty();
+    for root in net.roots.as_slice() {
+        joined = joined.join(root_uses(net, estimate, *root, s));
     }
-    r
+    joined
 }
 
 // The rights of a use map, each with the E rights of site s.
-fn with_holds(m: UseMap, estimate: &Estimate, s: u8) -> [u8; 32]
+fn with_holds(m: UseMap, estimate: &Estimate, s: u8) -> [u8; SITES]
     requires { s < 32 }
     ensures { result ≡ table 32 (λ t. join (get_or m.rights t 0) (holds (estimate_view estimate.now) s t)) }
 {
@@ -48,7 +48,7 @@ fn with_holds(m: UseMap, estimate: &Estimate, s: u8) -> [u8; 32]
 }
 
 // The rights on each site that a root at s uses or the E rows of s have.
-fn usable_at(net: &Net, estimate: &Estimate, s: u8) -> [u8; 32]
+fn usable_at(net: &Net, estimate: &Estimate, s: u8) -> [u8; SITES]
     requires { Rooted net.now.lines net.now.roots × (s < 32) }
     ensures { result ≡ table 32 (usable_of (world_of net.now estimate.now) s) }
 {
@@ -65,7 +65,7 @@ fn used_at(net: &Net, estimate: &Estimate, s: u8) -> u32
 }
 
 // The same for each site.
-pub fn used_counts(net: &Net, estimate: &Estimate) -> [u32; 32]
+pub fn used_counts(net: &Net, estimate: &Estimate) -> [u32; SITES]
     requires { Rooted net.now.lines net.now.roots }
     ensures { result ≡ table 32 (used_count (world_of net.now estimate.now)) }
 {

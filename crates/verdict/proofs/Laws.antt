@@ -1,20 +1,19 @@
 -- Laws of the verdict as the code finds it.
 -- Assumes nothing.
-use mathlib.Core.Path.{◌≡◌, refl, sym, ap, ap₂, ◌∙◌}
+use mathlib.Core.Path.{◌≡◌, refl, sym, ap, ◌∙◌}
 use mathlib.Core.Bool.{Bool, true, false, cond}
 use mathlib.Core.List.{List, [], ◌∷◌}
 use mathlib.Core.Option.{none, some, map}
-use Prim.Native.Nat.{ℕ, zero, suc, ◌+◌, ◌*◌, ◌-◌, ◌<◌, ◌≤◌, ◌^◌, min}
+use Prim.Native.Nat.{ℕ, zero, suc, ◌+◌, ◌<◌, ◌≤◌}
 use native.Mathlib.Omega.{arith}
-use borrow.Author.Tests.{eq-eqb, ne_eqb}
-use lib.ListN.{length, get_or, drop, drop_of_length-le}
-use Rattle.sets.specs.Lists.{All, done, any, same, table, concat}
-use Rattle.sets.proofs.Lists.{All-cat, All-turn}
-use Rattle.sets.proofs.Tables.{get_or_table, length_table, table_drop}
-use Rattle.klaim.specs.Process.{Line, tree}
-use Rattle.klaim.specs.Net.{Root, Net, Estimate}
-use Rattle.klaim.specs.Analysis.{first_not, least, stands, broken, place_set, process, accepted, broken_t, broken_q, broken_tuple, broken_line, verdict_of, verdict}
-use Rattle.tables.specs.View.{root_at, rows_view, lines_view}
+use native.Mathlib.Numerals.{add-one}
+use lib.ListN.{length, get_or}
+use Rattle.sets.specs.Lists.{◌⧺◌, any, same, table, concat}
+use Rattle.sets.proofs.Runs.{concat_append, concat_one}
+use Rattle.sets.proofs.Tables.{get_or_table, length_table, table_snoc}
+use Rattle.klaim.specs.Net.{Estimate}
+use Rattle.klaim.specs.Analysis.{first_not, least, stands}
+use Rattle.tables.specs.View.{tuples_of}
 use Rattle.rules.specs.Masks.{IndexOf}
 use Rattle.broken.specs.Lesser.{lesser_of}
 use Rattle.broken.proofs.Laws.{least_both}
@@ -44,17 +43,20 @@ module _ {A : Type 0} (f : A → Bool) where
     pub table_none : (i : ℕ) → ((k : ℕ) → k < i → f (g k) ≡ true) → n ≤ i → none ≡ first_not f (table n g)
     table_none i h e = sym (first_none (table n g) (g 0) (λ k q. let l : k < n = omega (arith, length_table n g) in ap f (get_or_table n g k (g 0) l) ∙ h k (omega arith)))
 
--- the least over the roots, from root i on
-module _ {A : Type 0} (F : A → List ℕ) (n : ℕ) (g : ℕ → A) where
-  pub least_end : none ≡ least (concat F (drop n (table n g)))
-  unfolding least concat
-  least_end = ap (λ (xs : List A). least (concat F xs)) (sym (drop_of_length-le (table n g) {i = n} (omega (arith, length_table n g))))
-
-  pub least_down : (i : ℕ) → 0 < i → i ≤ n → lesser_of (least (F (g (i - 1)))) (least (concat F (drop i (table n g)))) ≡ least (concat F (drop (i - 1) (table n g)))
-  unfolding concat
-  least_down i p l = sym (least_both (F (g (i - 1))) (concat F (drop i (table n g)))) ∙ sym (ap (λ (xs : List A). least (concat F xs)) (table_drop n g i p l))
+-- the least over one root more
+pub least_more : {A : Type 0} (F : A → List ℕ) (n : ℕ) (g : ℕ → A) {x : A} → x ≡ g n
+    → lesser_of (least (concat F (table n g))) (least (F x)) ≡ least (concat F (table (n + 1) g))
+unfolding concat
+least_more {A} F n g {x} e = sym (least_both (concat F (table n g)) (F x)) ∙ ap least (ap (λ (y : A). concat F (table n g) ⧺ F y) e ∙ sym more)
+  where
+    more : concat F (table (n + 1) g) ≡ concat F (table n g) ⧺ F (g n)
+    more =
+        ap (λ (k : ℕ). concat F (table k g)) (add-one n)
+        ∙ ap (concat F) (table_snoc n g)
+        ∙ concat_append F (table n g) (g n ∷ [])
+        ∙ ap (λ (ys : List ℕ). concat F (table n g) ⧺ ys) (concat_one F (g n))
 
 -- a tuple has a row
-pub row_stands : {E : Estimate} {index : List ℕ} (w : IndexOf E index) (t : List ℕ) {b : Bool} → b ≡ any (same t) (rows_view w.count w.bytes) → b ≡ stands E t
+pub row_stands : {E : Estimate} {index : List ℕ} (w : IndexOf E index) (t : List ℕ) {b : Bool} → b ≡ any (same t) (tuples_of w.rows) → b ≡ stands E t
 unfolding stands
-row_stands w t h = h ∙ ap (any (same t)) (sym w.rows)
+row_stands w t h = h ∙ ap (any (same t)) (sym w.stand)

@@ -1,6 +1,6 @@
 -- The code's verdict as the definitions have it, and what is judged.
 -- Assumes nothing.
-use Rattle.std.specs.Prelude.{◌≡◌, true, ◌≤◌}
+use Rattle.std.specs.Prelude.{◌≡◌, true}
 use Rattle.sets.specs.Lists.{all}
 use Rattle.klaim.specs.Analysis as Spec
 use Rattle.klaim.specs.Invariant.{all_below}
@@ -20,7 +20,6 @@ verdict_view (BrokenLine q) = Spec.broken_q q
 
 -- what the reader leaves of a net and an estimate that are judged
 pub record Judgeable (N : Net) (E : Estimate) : Type 0 where
-  pub tuples_few : N.tuples.count ≤ 256
   pub tuples_low : all (all_below 32) (tuples_of N.tuples) ≡ true
   pub rooted : Rooted N.lines N.roots
-  pub sized : Sized E.stand.count E.stand.bytes
+  pub sized : Sized E.stand

@@ -1,7 +1,7 @@
 //! The verdict on a net and an estimate.
 #![tactic(auto)]
 
-ghost use Rattle.std.specs.Prelude.{◌≡◌, true, ◌≤◌};
+ghost use Rattle.std.specs.Prelude.{◌≡◌, true};
 ghost use Rattle.sets.specs.Lists.{all, concat};
 ghost use Rattle.sets.specs.Options.{option_of};
 ghost use Rattle.klaim.specs.Analysis.{first_not, least, stands, broken as broken_of, place_set, process, verdict_of as verdict_by, verdict as verdict_of};
@@ -25,12 +25,11 @@ pub enum Verdict {
 
 // The first of the T rows whose tuple has no A row, by the index of these.
 fn first_missing(tuples: &Tuples, index: &RowIndex) -> Option<u8>
-    requires few { tuples.now.count ≤ 256 }
-    requires sites { all (all_below 32) (tuples_of tuples.now) ≡ true }
+    requires { all (all_below 32) (tuples_of tuples.now) ≡ true }
     ensures { (E : Spec.Estimate) → IndexOf E index.now.sets → option_of (λ i. i) result ≡ first_not (stands E) (tuples_of tuples.now) }
 {
-    for i in 0..tuples.count {
-        if !matching::has_row(index, tuples, i) {
+    for (i, tuple) in tuples.as_slice().iter().enumerate() {
+        if !matching::has_row(index, tuple) {
             return Some(i as u8);
         }
     }
@@ -43,11 +42,10 @@ fn first_line(net: &Net, estimate: &Estimate, index: &RowIndex) -> Option<u8>
     ensures { IndexOf (estimate_view estimate.now) index.now.sets → option_of (λ q. q) result ≡ least (concat (λ x. broken_of (net_view net.now) (estimate_view estimate.now) (place_set x.site) (process (net_view net.now) x)) (roots_of net.now.roots)) }
 {
     let mut first = None;
-    for i in (0..net.roots.count).rev() {
-        let places = sets::single(net.roots.site(i));
-        let line = net.roots.line(i);
-        let here = broken::first_broken(net, estimate, index, &net.lines, places, line);
-        first = broken::lesser(here, first);
+    for root in net.roots.as_slice() {
+        let places = sets::single(root.site);
+        let here = broken::first_broken(net, estimate, index, &net.lines, places, root.line);
+        first = broken::lesser(first, here);
     }
     first
 }

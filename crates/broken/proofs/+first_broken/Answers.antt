@@ -44,15 +44,18 @@ pub returns-in-Eval : goal.returns-in-Eval
 returns-in-Eval t c =
     let N = net_view c.args.net.now in
     let E = estimate_view c.args.estimate.now in
+    let P = c.args.places in
     let T = tree (lines_of c.args.lines.now) in
     λ z.
     let inside = c.first_broken-b-in-Eval.ensures z ∙ ap (λ (P : ℕ). least (broken N E P (T c.in-Eval.body))) c.reach-set.ensures in
-    found_at N E c.args.places c.requires c.action-action.ensures c.or_here.ensures (c.own_rule-ok.ensures z)
-    (c.lesser-in-Eval.ensures ∙ ap₂ lesser_of inside (c.first_broken-a-in-Eval.ensures z) ∙ sym (least_both _ _) ∙ sym (ap (λ (x : Action). least (behind N E c.args.places T x)) c.in-Eval.is))
+    let both = c.lesser-in-Eval.ensures ∙ ap₂ lesser_of inside (c.first_broken-a-in-Eval.ensures z) ∙ sym (least_both _ _) in
+    found_at N E P c.requires c.action-action.ensures c.or_here.ensures (c.own_rule-ok.ensures z)
+    (both ∙ sym (ap (λ (x : Action). least (behind N E P T x)) c.in-Eval.is))
 
 pub returns-in-Rep : goal.returns-in-Rep
 returns-in-Rep t c =
     let N = net_view c.args.net.now in
     let E = estimate_view c.args.estimate.now in
-    let k = after N E c.args.places c.requires c.action-action.ensures c.in-Rep.is in
-    λ z. found_at N E c.args.places c.requires c.action-action.ensures c.or_here-in-Rep.ensures (c.own_rule-ok.ensures z) (c.first_broken-rest.ensures z ∙ ap least k.1)
+    let d = c.action-action.ensures in
+    let k = after N E c.args.places c.requires d c.in-Rep.is in
+    λ z. found_at N E c.args.places c.requires d c.or_here-in-Rep.ensures (c.own_rule-ok.ensures z) (c.first_broken-rest.ensures z ∙ ap least k.1)

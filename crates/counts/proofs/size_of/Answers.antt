@@ -1,4 +1,4 @@
-use mathlib.Core.Path.{◌∙◌, sym}
+use mathlib.Core.Path.{sym, ◌∙◌}
 use Rattle.counts.proofs.Size.{size_bits}
 use Rattle.counts.proofs.size_of.Goals as goal
 

@@ -19,6 +19,9 @@ returns-then-need-ge-MANY c =
 pub returns : goal.returns
 unfolding tuples_of
 returns c =
+    let sets = Sets c.args.reaches c.args.m in
     let had = c.chosen in
     let counted = c.count_rows-have.ensures in
-    λ rows I L d. count_rule c.args.reaches c.args.m (tuples_of rows) _ _ d (counted.0 ∙ rows_count had.result.words rows.count (fits (Sets c.args.reaches c.args.m)) (row_at rows) rows.few (had.ensures rows I L)) counted.1 c.choices-need.ensures
+    λ rows I L d.
+    let have = counted.0 ∙ rows_count had.result.words rows.count (fits sets) (row_at rows) rows.few (had.ensures rows I L) in
+    count_rule c.args.reaches c.args.m (tuples_of rows) _ _ d have counted.1 c.choices-need.ensures

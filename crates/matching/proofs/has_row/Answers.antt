@@ -25,4 +25,6 @@ returns c =
     ∙ ap (λ (m : ℕ). ltb k rows.count & fits (map sites (take m c.singles.result)) (row_at rows k)) c.len.ensures.value
     ∙ ap (λ (ms : List ℕ). ltb k rows.count & fits (map sites ms) (row_at rows k)) c.singles.ensures
     ∙ singles_fit (ltb k rows.count) t (row_at rows k) (λ b. table_all (all_below 32) rows.count (row_at rows) L k (ltb_lt k rows.count b)) in
-    ap (λ (n : ℕ). not (eqb n 0)) c.count_rows.ensures.0 ∙ any_kept (in_rows had.result.words) (below 256) ∙ rows_any had.result.words rows.count (same t) (row_at rows) rows.few ok
+    ap (λ (n : ℕ). not (eqb n 0)) c.count_rows.ensures.0
+    ∙ any_kept (in_rows had.result.words) (below 256)
+    ∙ rows_any had.result.words rows.count (same t) (row_at rows) rows.few ok

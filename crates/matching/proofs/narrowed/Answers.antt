@@ -32,5 +32,7 @@ loop-j-preserved c =
 pub returns : goal.returns
 returns c =
     let at = c.loop-j in
+    let sets = Sets c.args.reaches c.args.m in
     let e : at.j ≡ 0 = omega arith in
-    λ rows I L F i h. at.invariant rows I L F i h ∙ ap (λ (k : ℕ). in_rows c.args.had.words i & fits (drop k (Sets c.args.reaches c.args.m)) (drop k (row_at rows i))) e
+    λ rows I L F i h.
+    at.invariant rows I L F i h ∙ ap (λ (k : ℕ). in_rows c.args.had.words i & fits (drop k sets) (drop k (row_at rows i))) e

@@ -14,10 +14,14 @@ loop-rest-init c =
     (low, λ u t. t, λ rows I i h. no_rows i ∙ turn_none rows.count (in_column (row_at rows i) c.args.c) i c.args.set)
 
 pub overflow_cast-v : goal.overflow_cast-v
-overflow_cast-v c = let low = next_low c.args.set c.loop-rest.rest c.loop-rest-test.true c.loop-rest.invariant.0 c.loop-rest.invariant.1 in search rules
+overflow_cast-v c =
+    let at = c.loop-rest in
+    let low = next_low c.args.set at.rest c.loop-rest-test.true at.invariant.0 at.invariant.1 in search rules
 
 pub rows_with-requires : goal.rows_with-requires
-rows_with-requires c = (c.requires, next_low c.args.set c.loop-rest.rest c.loop-rest-test.true c.loop-rest.invariant.0 c.loop-rest.invariant.1)
+rows_with-requires c =
+    let at = c.loop-rest in
+    (c.requires, next_low c.args.set at.rest c.loop-rest-test.true at.invariant.0 at.invariant.1)
 
 pub loop-rest-smaller : goal.loop-rest-smaller
 loop-rest-smaller c =
@@ -28,12 +32,13 @@ pub loop-rest-preserved : goal.loop-rest-preserved
 loop-rest-preserved c =
     let at = c.loop-rest in
     let some = c.loop-rest-test.true in
+    let least = next_low c.args.set at.rest some at.invariant.0 at.invariant.1 in
     let less = rest_less c.args.set at.rest some at.invariant.0 at.invariant.1 in (
       omega (arith, less, at.invariant.0),
       rest_within c.args.set at.rest some at.invariant.0 at.invariant.1,
       λ rows I i h.
           c.in_either-r.ensures i h
-          ∙ ap₂ either (at.invariant.2 rows I i h) (c.rows_with.ensures i h ∙ I c.args.c _ i c.requires (next_low c.args.set c.loop-rest.rest c.loop-rest-test.true c.loop-rest.invariant.0 c.loop-rest.invariant.1) h)
+          ∙ ap₂ either (at.invariant.2 rows I i h) (c.rows_with.ensures i h ∙ I c.args.c _ i c.requires least h)
           ∙ turn c.args.set at.rest some at.invariant.0 at.invariant.1 rows.count (in_column (row_at rows i) c.args.c) i,
     )
 

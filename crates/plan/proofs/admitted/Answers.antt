@@ -1,17 +1,8 @@
 use native.Mathlib.Omega.{arith}
 use Rattle.state.specs.View.{state_view}
-use Rattle.state.proofs.Few.{sites_few, arrivals_few}
+use Rattle.state.proofs.Few.{sites_few}
 use Rattle.plan.proofs.Fitted.{root_form, arrival_sound, arrival_unsound}
 use Rattle.plan.proofs.admitted.Goals as goal
-
-pub bounds-state-i : goal.bounds-state-i
-bounds-state-i c = omega (arith, c.requires.1, arrivals_few c.requires.0)
-
-pub offset_bounds-state-i : goal.offset_bounds-state-i
-offset_bounds-state-i c = omega (arith, c.requires.1, arrivals_few c.requires.0)
-
-pub bounds-state-i-2 : goal.bounds-state-i-2
-bounds-state-i-2 c = omega (arith, c.requires.1, arrivals_few c.requires.0)
 
 pub has_site-requires : goal.has_site-requires
 has_site-requires c = omega (arith, c.requires.2, sites_few c.requires.0)

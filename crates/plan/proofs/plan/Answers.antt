@@ -1,20 +1,9 @@
-use mathlib.Core.Path.{refl, subst}
+use mathlib.Core.Path.{refl}
 use Rattle.klaim.specs.Engine.{plan}
-use Rattle.tables.specs.View.{action_line, LowAction}
+use Rattle.tables.specs.View.{action_line}
 use Rattle.state.specs.View.{state_view}
-use Rattle.state.proofs.Few.{tuples_few}
 use Rattle.plan.proofs.Fitted.{plan_at}
 use Rattle.plan.proofs.plan.Goals as goal
-
-pub plan_get-requires : goal.plan_get-requires
-plan_get-requires c =
-    let low = subst LowAction c.in-In.is c.action.ensures.low in
-    (tuples_few c.requires.fits, low.1, low.0)
-
-pub plan_get-requires-in-Read : goal.plan_get-requires-in-Read
-plan_get-requires-in-Read c =
-    let low = subst LowAction c.in-Read.is c.action.ensures.low in
-    (tuples_few c.requires.fits, low.1, low.0)
 
 pub returns-in-Nil-clause-value : goal.returns-in-Nil-clause-value
 unfolding plan action_line

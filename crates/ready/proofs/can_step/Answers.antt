@@ -1,22 +1,16 @@
 use mathlib.Core.Logic.{inl, inr}
-use mathlib.Core.Path.{◌≡◌, refl, sym, ap, subst, ◌∙◌}
+use mathlib.Core.Path.{◌≡◌, refl, sym, ap, ◌∙◌}
 use Prim.Native.Nat.{ℕ}
 use lib.Dec.{ltb}
 use lib.ListN.{length}
-use Rattle.tables.specs.View.{action_line, LowAction, InForm}
+use Rattle.tables.specs.View.{action_line, InForm}
 use Rattle.tables.proofs.LineTable.{next}
 use Rattle.tuples.proofs.Rows.{rows_long}
 use Rattle.state.specs.View.{state_view}
-use Rattle.state.proofs.Few.{tuples_few, threads_count}
+use Rattle.state.proofs.Few.{threads_count}
 use Rattle.ready.specs.Runs.{room, runs}
 use Rattle.ready.proofs.Laws.{runs_at}
 use Rattle.ready.proofs.can_step.Goals as goal
-
-pub some_agrees-requires : goal.some_agrees-requires
-some_agrees-requires c = elim c.in-In.is [
-  | inl e ↦ (let low = subst LowAction e.1 c.action.ensures.low in (tuples_few c.requires.fits, low.1, low.0))
-  | inr e ↦ (let low = subst LowAction e.1 c.action.ensures.low in (tuples_few c.requires.fits, low.1, low.0))
-]
 
 pub returns-in-Nil : goal.returns-in-Nil
 unfolding runs action_line
@@ -26,7 +20,7 @@ pub returns-in-Par : goal.returns-in-Par
 unfolding runs action_line
 returns-in-Par c =
     let st = state_view c.args.state.now in
-    let e : c.has_room-in-Par.result ≡ room (length st.threads) st.lines c.in-Par.next c.in-Par.more = c.has_room-in-Par.ensures ∙ ap (λ (n : ℕ). room n st.lines c.in-Par.next c.in-Par.more) (sym (threads_count c.requires.fits)) in
+    let e : c.has_room-in-Par.result ≡ room (length st.threads) st.lines c.in-Par.next c.in-Par.more = c.has_room-in-Par.ensures ∙ ap (λ (n : ℕ). room n st.lines c.in-Par.next c.in-Par.more) (sym (threads_count c.args.state.now)) in
     elim c.in-Par.is [
       | inl i ↦ runs_at c.requires c.action.ensures i e
       | inr i ↦ runs_at c.requires c.action.ensures i.2 e
@@ -36,11 +30,11 @@ pub returns-in-Rep : goal.returns-in-Rep
 unfolding runs action_line
 returns-in-Rep c =
     let st = state_view c.args.state.now in
-    runs_at c.requires c.action.ensures c.in-Rep.is (c.has_room.ensures ∙ ap (λ (n : ℕ). room n st.lines c.args.th.now.line c.in-Rep.next) (sym (threads_count c.requires.fits)))
+    runs_at c.requires c.action.ensures c.in-Rep.is (c.has_room.ensures ∙ ap (λ (n : ℕ). room n st.lines c.args.th.now.line c.in-Rep.next) (sym (threads_count c.args.state.now)))
 
 pub returns-in-Out : goal.returns-in-Out
 unfolding runs action_line state_view
-returns-in-Out c = runs_at c.requires c.action.ensures c.in-Out.is (ap (λ (k : ℕ). ltb k 256) (sym (rows_long c.args.state.now.tuples.count c.args.state.now.tuples.bytes)))
+returns-in-Out c = runs_at c.requires c.action.ensures c.in-Out.is (ap (λ (k : ℕ). ltb k 256) (sym (rows_long c.args.state.now.tuples)))
 
 pub returns-in-In : goal.returns-in-In
 unfolding runs action_line
@@ -52,7 +46,7 @@ returns-in-In c = elim c.in-In.is [
 pub some_guest-requires : goal.some_guest-requires
 unfolding state_view
 some_guest-requires c =
-    let w : InForm c.args.state.now.lines.count c.args.state.now.lines.bytes c.args.th.now.line = record { in_order = c.requires.fits.invariant.lines_ordered; present = c.requires.present } in
+    let w : InForm c.args.state.now.lines c.args.th.now.line = record { in_order = c.requires.fits.invariant.lines_ordered; present = c.requires.present } in
     (c.requires.fits, c.requires.placed, (next w c.action.ensures c.in-Accept.is).1)
 
 pub returns-in-Accept : goal.returns-in-Accept

@@ -16,30 +16,30 @@ pub loop-k-init : goal.loop-k-init
 unfolding ready
 loop-k-init c =
     let st = c.args.state.now in
-    ap (λ (n : ℕ). least (keep (runnable (state_view st)) (below n))) (threads_count c.requires.0) ∙ lowest_start (runnable (state_view st)) st.threads.count
+    ap (λ (n : ℕ). least (keep (runnable (state_view st)) (below n))) (threads_count st) ∙ lowest_start (runnable (state_view st)) st.threads.count
 
 pub can_step-requires : goal.can_step-requires
 can_step-requires c =
     let k = c.loop-k.k in
-    let h : k < c.args.state.now.threads.count = omega (arith, lent_count c.args.state.now c.requires.0 c.requires.1) in
-    subst (Plannable c.args.state.now) (sym (lent_thread c.args.state.now c.requires.1 k h)) (plannable c.requires.0 k h)
+    let h : k < c.args.state.now.threads.count = omega (arith, lent_count c.args.state.now.threads c.requires.1) in
+    subst (Plannable c.args.state.now) (sym (lent_thread c.args.state.now.threads c.requires.1 k h)) (plannable c.requires.0 k h)
 
 pub returns-then-can_step : goal.returns-then-can_step
 returns-then-can_step c =
     let st = c.args.state.now in
     let k = c.loop-k.k in
-    let h : k < st.threads.count = omega (arith, lent_count c.args.state.now c.requires.0 c.requires.1) in
+    let h : k < st.threads.count = omega (arith, lent_count c.args.state.now.threads c.requires.1) in
     sym (c.loop-k.invariant ∙ lowest_here (runnable (state_view st)) st.threads.count k h (lent_runnable c.requires.0 c.requires.1 k h c.can_step.ensures ∙ c.if-can_step.true))
 
 pub loop-k-preserved : goal.loop-k-preserved
 loop-k-preserved c =
     let st = c.args.state.now in
     let k = c.loop-k.k in
-    let h : k < st.threads.count = omega (arith, lent_count c.args.state.now c.requires.0 c.requires.1) in
+    let h : k < st.threads.count = omega (arith, lent_count c.args.state.now.threads c.requires.1) in
     let s : suc k ≡ k + 1 = omega arith in
     c.loop-k.invariant ∙ lowest_later (runnable (state_view st)) st.threads.count k h (lent_runnable c.requires.0 c.requires.1 k h c.can_step.ensures ∙ c.if-can_step.false) (k + 1) s
 
 pub returns : goal.returns
 returns c =
     let st = c.args.state.now in
-    sym (c.loop-k.invariant ∙ lowest_end (runnable (state_view st)) st.threads.count c.loop-k.k (omega (arith, lent_count c.args.state.now c.requires.0 c.requires.1, c.loop-k.auto.k-end)))
+    sym (c.loop-k.invariant ∙ lowest_end (runnable (state_view st)) st.threads.count c.loop-k.k (omega (arith, lent_count c.args.state.now.threads c.requires.1, c.loop-k.auto.k-end)))

@@ -1,29 +1,21 @@
-use mathlib.Core.Path.{◌≡◌, sym, ◌∙◌}
-use Prim.Native.Nat.{suc, ◌+◌}
-use native.Mathlib.Omega.{arith}
-use Rattle.sets.proofs.Shared.{any_yes, any_no, any_end}
-use Rattle.tables.specs.View.{row_at, rows_view}
+use mathlib.Core.Path.{◌∙◌}
+use Rattle.std.proofs.Common.{rules, tests}
+use Rattle.std.proofs.lemmas.Iterator.{YieldsList-from_slice}
+use Rattle.std.proofs.lemmas.Iterator.Search.{any_from_yields_List}
+use Rattle.klaim.specs.Engine.{agrees}
+use Rattle.klaim.specs.Fields.{items}
+use Rattle.tables.specs.Entries.{entries}
+use Rattle.tables.specs.View.{no_tuple, tuple_view, row_at, tuples_of}
+use Rattle.threads.specs.View.{thread_view}
 use Rattle.state.specs.View.{state_view}
+use Rattle.ready.proofs.Some.{any_entries}
 use Rattle.ready.proofs.some_agrees.Goals as goal
 
-pub returns-then-agrees : goal.returns-then-agrees
-unfolding state_view rows_view
-returns-then-agrees c =
-    let at = c.loop-m in
-    let ts = c.args.state.now.tuples in
-    sym (at.invariant ∙ any_yes _ ts.count (row_at ts.bytes) at.m (omega arith) (sym c.agrees.ensures.value ∙ c.if-agrees.true))
-
-pub loop-m-preserved : goal.loop-m-preserved
-unfolding state_view rows_view
-loop-m-preserved c =
-    let at = c.loop-m in
-    let ts = c.args.state.now.tuples in
-    let s : suc at.m ≡ at.m + 1 = omega arith in
-    at.invariant ∙ any_no _ ts.count (row_at ts.bytes) at.m (at.m + 1) (omega arith) s (sym c.agrees.ensures.value ∙ c.if-agrees.false)
-
 pub returns : goal.returns
-unfolding state_view rows_view
+unfolding state_view tuples_of row_at
 returns c =
-    let at = c.loop-m in
     let ts = c.args.state.now.tuples in
-    sym (at.invariant ∙ any_end _ ts.count (row_at ts.bytes) at.m (omega (arith, at.auto.m-end)))
+    let test = agrees (thread_view c.args.th.now) c.args.target (items c.args.fields.now) in
+    let road = YieldsList-from_slice (entries ts) (c.iter.ensures.rest ∙ c.as_slice.ensures) in
+    any_from_yields_List (λ t. test (tuple_view t)) c.any.new.self _ c.any.result c.any.ensures.ran road (λ x b q k. search (rules, tests))
+    ∙ any_entries test tuple_view no_tuple ts

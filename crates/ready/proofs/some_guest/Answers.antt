@@ -1,35 +1,19 @@
-use mathlib.Core.Path.{◌≡◌, sym, ◌∙◌}
-use Prim.Native.Nat.{suc, ◌≤◌, ◌+◌}
+use mathlib.Core.Path.{refl, ◌∙◌}
 use native.Mathlib.Omega.{arith}
-use lib.ListN.{length}
+use Rattle.std.proofs.Common.{rules, tests}
+use Rattle.std.proofs.lemmas.Iterator.{YieldsList-from_range}
+use Rattle.std.proofs.lemmas.Iterator.Search.{any_from_yields_List}
 use Rattle.threads.specs.View.{thread_view}
-use Rattle.state.specs.View.{state_view}
-use Rattle.state.proofs.Few.{arrivals_few}
-use Rattle.plan.proofs.Laws.{one_here, one_later, one_nowhere}
+use Rattle.state.specs.View.{arrival_root, arrivals_of, state_view}
 use Rattle.ready.specs.Runs.{welcome}
+use Rattle.ready.proofs.Some.{any_places}
 use Rattle.ready.proofs.some_guest.Goals as goal
 
-pub returns-then-welcomes : goal.returns-then-welcomes
-unfolding state_view
-returns-then-welcomes c =
-    let at = c.loop-i in
-    let rs = c.args.state.now.arrivals in
-    let long : rs.count ≤ length rs.roots = omega (arith, arrivals_few c.requires.0, c.requires.0.arrivals_long) in
-    sym (at.invariant ∙ one_here (welcome (state_view c.args.state.now) (thread_view c.args.th.now) c.args.a c.args.d) rs.roots rs.count long at.i (omega arith) (sym c.welcomes.ensures ∙ c.if-welcomes.true))
-
-pub loop-i-preserved : goal.loop-i-preserved
-unfolding state_view
-loop-i-preserved c =
-    let at = c.loop-i in
-    let rs = c.args.state.now.arrivals in
-    let s : suc at.i ≡ at.i + 1 = omega arith in
-    let long : rs.count ≤ length rs.roots = omega (arith, arrivals_few c.requires.0, c.requires.0.arrivals_long) in
-    at.invariant ∙ one_later (welcome (state_view c.args.state.now) (thread_view c.args.th.now) c.args.a c.args.d) rs.roots rs.count long at.i (omega arith) (sym c.welcomes.ensures ∙ c.if-welcomes.false) (at.i + 1) s
-
 pub returns : goal.returns
-unfolding state_view
+unfolding state_view arrivals_of
 returns c =
-    let at = c.loop-i in
-    let rs = c.args.state.now.arrivals in
-    let long : rs.count ≤ length rs.roots = omega (arith, arrivals_few c.requires.0, c.requires.0.arrivals_long) in
-    sym (at.invariant ∙ one_nowhere (welcome (state_view c.args.state.now) (thread_view c.args.th.now) c.args.a c.args.d) rs.roots rs.count long at.i (omega (arith, at.auto.i-end)))
+    let t = c.args.state.now.arrivals in
+    let test = welcome (state_view c.args.state.now) (thread_view c.args.th.now) c.args.a c.args.d in
+    let road = YieldsList-from_range 0 t.count t.count refl (omega arith) in
+    any_from_yields_List (λ i. test (arrival_root t i)) c.any.new.self _ c.any.result c.any.ensures.ran road (λ x b q k. search (rules, tests))
+    ∙ any_places test (arrival_root t) t.count

@@ -22,7 +22,8 @@ pub loop-root-preserved : goal.loop-root-preserved
 loop-root-preserved c =
     let rs = c.args.net.now.roots in
     let i = c.loop-root.root-index in
-    far_more (net_view c.args.net.now) (estimate_view c.args.estimate.now) rs i _ (root_read rs c.as_slice-root-items.ensures i c.loop-root-test.true) c.single-places.ensures c.loop-root.invariant c.add_root.ensures c.add_evals.ensures
+    let root = root_read rs c.as_slice-root-items.ensures i c.loop-root-test.true in
+    far_more (net_view c.args.net.now) (estimate_view c.args.estimate.now) rs i _ root c.single-places.ensures c.loop-root.invariant c.add_root.ensures c.add_evals.ensures
 
 pub returns : goal.returns
 unfolding roots_of

@@ -1,7 +1,9 @@
-use mathlib.Core.Path.{refl}
-use Rattle.threads.specs.View.{threads_view}
+use mathlib.Core.Path.{ap}
+use Prim.Native.Nat.{ℕ}
+use Rattle.sets.specs.Lists.{table, table_from}
+use Rattle.threads.specs.View.{thread_at, threads_of}
 use Rattle.starts.proofs.no_threads.Goals as goal
 
-pub returns : goal.returns
-unfolding threads_view
-returns c = (refl, refl, refl)
+pub returns-clause-list : goal.returns-clause-list
+unfolding threads_of table table_from
+returns-clause-list c = ap (λ (n : ℕ). table n (thread_at c.empty.result)) c.empty.ensures.count

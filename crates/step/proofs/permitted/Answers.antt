@@ -9,4 +9,4 @@ use Rattle.step.proofs.permitted.Goals as goal
 pub returns : goal.returns
 returns c =
     let long : length c.args.th.policy ≡ 32 = search rules in
-    permits_past (net_view c.args.net.now) _ _ _ (omega (arith, c.if-t.false, long)) c.requires.1
+    permits_past (net_view c.args.net.now) _ _ _ (omega (arith, c.if-from-lt-SITES.false, c.from.ensures, long)) c.requires.1

@@ -1,7 +1,6 @@
 use mathlib.Core.Path.{◌≡◌}
 use Prim.Native.Nat.{ℕ}
 use lib.Dec.{eqb}
-use lib.ListN.{drop}
 use Rattle.sets.specs.Lists.{table}
 use Rattle.sets.specs.Bits.{grant, joins}
 use Rattle.klaim.specs.Net.{Root, Net, Estimate}
@@ -14,5 +13,6 @@ use Rattle.usable.proofs.site_uses.Given as goal
 abbrev pub part : Net → Estimate → ℕ → ℕ → Root → ℕ
 part N E s t x = grant (eqb x.site s) (uses N E (place_set s) (process N x) t)
 
-abbrev pub invariant-loop-i : goal.invariant-loop-i
-invariant-loop-i l = l.r.rights ≡ table 32 (λ t. joins (part (net_view l.net) (estimate_view l.estimate) l.s t) (drop l.i (table l.net.roots.count (root_at l.net.roots.bytes))))
+abbrev pub invariant-loop-root : goal.invariant-loop-root
+invariant-loop-root l =
+    l.joined.rights ≡ table 32 (λ t. joins (part (net_view l.net) (estimate_view l.estimate) l.s t) (table l.root-index (root_at l.net.roots)))

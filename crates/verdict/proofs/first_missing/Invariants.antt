@@ -8,4 +8,4 @@ use Rattle.rules.specs.Masks.{IndexOf}
 use Rattle.verdict.proofs.first_missing.Given as goal
 
 abbrev pub invariant-loop-i : goal.invariant-loop-i
-invariant-loop-i l = (E : Estimate) → IndexOf E l.index.sets → (k : ℕ) → k < l.i → stands E (row_at l.tuples.bytes k) ≡ true
+invariant-loop-i l = (E : Estimate) → IndexOf E l.index.sets → (k : ℕ) → k < l.i → stands E (row_at l.tuples k) ≡ true

@@ -21,4 +21,5 @@ loop-c-preserved c =
     let key : c.from.result ≡ in_column row at.c =
     c.from.ensures ∙ ap (λ (l : List ℕ). get_or l at.c 0) c.columns-columns.ensures.value ∙ get_or_table 6 (in_column row) at.c 0 (omega arith) in
     let low : in_column row at.c < 32 = subst (λ (x : ℕ). x < 32) key (search rules) in
-    (at.invariant.0, entered_more row c.args.i at.c _ _ c.args.self.now.sets at.self.sets c.requires (ap (λ (x : ℕ). 128 * at.c + 4 * x + c.args.i / 64) key) low (omega arith) at.invariant.0 long at.invariant.1)
+    let cell = ap (λ (x : ℕ). 128 * at.c + 4 * x + c.args.i / 64) key in
+    (at.invariant.0, entered_more row c.args.i at.c _ _ c.args.self.now.sets at.self.sets c.requires cell low (omega arith) at.invariant.0 long at.invariant.1)
