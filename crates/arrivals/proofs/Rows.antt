@@ -93,7 +93,8 @@ pub room : (g : ℕ) (r : ArrivalReader) → eqb g group_q ≡ true → full_of 
 unfolding full_of ◌&◌
 room g r e f = let l = nleb_lt 256 (r.present + r.lines.count) (rw e at f) in omega arith
 
-pub tally_more : (n d : ℕ) (above : List Row) {lines new : Lines} (p : Process) (t : Tally) → ArrivalTally n d above t lines → View.lines_of new ≡ View.lines_of lines ++ (line_view p.line ∷ []) →
+pub tally_more : (n d : ℕ) (above : List Row) {lines new : Lines} (p : Process) (t : Tally) → ArrivalTally n d above t lines →
+    View.lines_of new ≡ View.lines_of lines ++ (line_view p.line ∷ []) →
     ArrivalTally n d (above ++ (row_data (Form.Q p) ∷ [])) (counted_of (Form.Q p) lines.count t) new
 unfolding own lines_of row_data process_data row_line
 tally_more n d above {lines} {new} p t Y h = record {

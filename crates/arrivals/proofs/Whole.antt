@@ -28,7 +28,8 @@ nothing_held n d r p i t = record {
 }
 
 -- one root, at line 0
-pub root_zero : (none one : Roots) → none.count ≡ 0 → one.items ≡ set none.items none.count no_root → one.count ≡ none.count + 1 → map (λ x. x.line) (roots_of one) ≡ 0 ∷ []
+pub root_zero : (none one : Roots) → none.count ≡ 0 → one.items ≡ set none.items none.count no_root → one.count ≡ none.count + 1 →
+    map (λ x. x.line) (roots_of one) ≡ 0 ∷ []
 unfolding roots_of table table_from
 root_zero none one z i n =
     ap (map (λ x. x.line)) (root_pushed none one no_root (omega arith) i n refl ∙ ap (λ (k : ℕ). table k (View.root_at none) ++ (View.root_view no_root ∷ [])) z)

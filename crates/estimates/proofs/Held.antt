@@ -14,7 +14,8 @@ use Rattle.scan.proofs.Progress.{gather_none}
 use Rattle.estimates.specs.declared.reading.EstimateReader.{EstimateReader}
 use Rattle.estimates.specs.Rows.{EstimateHolds}
 
-pub nothing_held : (n : ℕ) (r : EstimateReader) → r.binds ≡ replicate {A = ℕ} 32 0 → r.hold ≡ replicate {A = ℕ} 1024 0 → r.stand.count ≡ 0 → r.tally ≡ start_of n → EstimateHolds (an_estimate n) [] r
+pub nothing_held : (n : ℕ) (r : EstimateReader) → r.binds ≡ replicate {A = ℕ} 32 0 → r.hold ≡ replicate {A = ℕ} 1024 0 → r.stand.count ≡ 0 →
+    r.tally ≡ start_of n → EstimateHolds (an_estimate n) [] r
 unfolding tuples_of of_group keep table table_from
 nothing_held n r b h i t = record {
   n = n;
@@ -28,6 +29,7 @@ nothing_held n r b h i t = record {
   counts = record { kept = done; owned = done; order = λ x. rw t (last_none x); size_is = rw t };
 }
 
-pub estimate_is : {t : Text} {rows : List Row} {r : EstimateReader} → EstimateHolds t rows r → estimate_view (record { binds = r.binds; stand = r.stand; hold = r.hold }) ≡ estimate_of rows
+pub estimate_is : {t : Text} {rows : List Row} {r : EstimateReader} → EstimateHolds t rows r →
+    estimate_view (record { binds = r.binds; stand = r.stand; hold = r.hold }) ≡ estimate_of rows
 unfolding estimate_of
 estimate_is H = rw (H.tables.binds_is, H.tables.stand_is, H.tables.hold_is)

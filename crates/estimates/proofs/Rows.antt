@@ -125,7 +125,8 @@ module _ {above : List Row} {R : EstimateReader} (T : EstimateTables above R) wh
   }
 
 -- the same tables beside another tally
-pub recounted : {above : List Row} {R : EstimateReader} → EstimateTables above R → {t : Tally} {k : R.keys.count ≡ R.stand.count} → EstimateTables above (record R { tally = t; keyed = k })
+pub recounted : {above : List Row} {R : EstimateReader} → EstimateTables above R → {t : Tally} {k : R.keys.count ≡ R.stand.count} →
+    EstimateTables above (record R { tally = t; keyed = k })
 recounted T = record { binds_is = T.binds_is; stand_is = T.stand_is; hold_is = T.hold_is; keys_are = T.keys_are }
 
 -- as many tuples stand in the table as A rows stand above
@@ -163,7 +164,8 @@ module _ (n : ℕ) (above : List Row) (R : EstimateReader) (Y : EstimateTally n 
         kept = All-append Y.kept (more (as_kept row P.low) done);
         owned = All-append Y.owned (more b done);
         order = λ x. last_snoc above (last_number t.last) r Y.order (and_r _ _ P.placed) x ∙ ap (λ (g : ℕ). leb g x.group) (sym (counted_last row 0 t));
-        size_is = counted_size row 0 t ∙ ap (λ (x : Bool). cond x r.size t.size) (ne_eqb r.group group_n (λ e. omega (arith, leb_le group_b r.group b))) ∙ Y.size_is;
+        size_is = counted_size row 0 t
+            ∙ ap (λ (x : Bool). cond x r.size t.size) (ne_eqb r.group group_n (λ e. omega (arith, leb_le group_b r.group b))) ∙ Y.size_is;
       }
 
   -- "Each row top down: 1, 2, 3, 4, 7."

@@ -43,7 +43,8 @@ module _ {rows : List Row} {r : NetReader} (H : NetHolds a_net rows r) where
   lines_say = ap₂ (whole_of r.tally.turn) H.tables.lines_is (ap (map (λ x. x.line)) H.tables.roots_is)
 
   -- "Then 5, 6, 8, each over the whole text."
-  pub net_is : empty rows ≡ false → whole_answer (whole_of r.tally.turn (View.lines_of r.lines) (map (λ x. x.line) (roots_of r.roots))) (net_view (read_off r)) ≡ whole_net rows
+  pub net_is : empty rows ≡ false →
+      whole_answer (whole_of r.tally.turn (View.lines_of r.lines) (map (λ x. x.line) (roots_of r.roots))) (net_view (read_off r)) ≡ whole_net rows
   unfolding whole_net
   net_is e =
       ap₂ whole_answer lines_say tables_say

@@ -20,7 +20,8 @@ none : {A : Type 0} {n : ℕ} (f : ℕ → A) → n ≡ 0 → table n f ≡ []
 unfolding table table_from
 none f h = rw h refl
 
-pub nothing_held : (r : NetReader) → r.homes ≡ replicate {A = ℕ} 1024 0 → r.boxes ≡ unsaid_boxes → r.tuples.count ≡ 0 → r.roots.count ≡ 0 → r.lines.count ≡ 0 → r.tally ≡ start_of 0 → NetHolds a_net [] r
+pub nothing_held : (r : NetReader) → r.homes ≡ replicate {A = ℕ} 1024 0 → r.boxes ≡ unsaid_boxes → r.tuples.count ≡ 0 → r.roots.count ≡ 0 →
+    r.lines.count ≡ 0 → r.tally ≡ start_of 0 → NetHolds a_net [] r
 unfolding tuples_of roots_of View.lines_of lines_of of_group keep put_boxes table table_from size_of numbers_of below same empty
 nothing_held r h b i j q t = record {
   text = refl;

@@ -93,7 +93,9 @@ module _ {above : List Row} {R : NetReader} (T : NetTables above R) where
     keys_are = no_key (size_data n) (λ e. omega arith);
   }
 
-  pub tables_r : (p : Pair) {new : List ℕ} {k : R.keys.count ≡ R.tuples.count} {z : R.tally.size ≤ site_limit} → new ≡ pairs_of group_r (above ++ (pair_data group_r p ∷ [])) → NetTables (above ++ (row_data (Form.R p) ∷ [])) (record R { homes = new; keyed = k; size_few = z })
+  pub tables_r : (p : Pair) {new : List ℕ} {k : R.keys.count ≡ R.tuples.count} {z : R.tally.size ≤ site_limit} →
+      new ≡ pairs_of group_r (above ++ (pair_data group_r p ∷ [])) →
+      NetTables (above ++ (row_data (Form.R p) ∷ [])) (record R { homes = new; keyed = k; size_few = z })
   unfolding row_data pair_data
   tables_r p h = record {
     homes_is = h;
@@ -104,7 +106,9 @@ module _ {above : List Row} {R : NetReader} (T : NetTables above R) where
     keys_are = no_key (pair_data group_r p) (λ e. omega arith);
   }
 
-  pub tables_d : (b : Sandbox) {new : List ℕ} {k : R.keys.count ≡ R.tuples.count} {z : R.tally.size ≤ site_limit} → new ≡ boxes_of unsaid_boxes (above ++ (box_data b ∷ [])) → NetTables (above ++ (row_data (Form.D b) ∷ [])) (record R { boxes = new; keyed = k; size_few = z })
+  pub tables_d : (b : Sandbox) {new : List ℕ} {k : R.keys.count ≡ R.tuples.count} {z : R.tally.size ≤ site_limit} →
+      new ≡ boxes_of unsaid_boxes (above ++ (box_data b ∷ [])) →
+      NetTables (above ++ (row_data (Form.D b) ∷ [])) (record R { boxes = new; keyed = k; size_few = z })
   unfolding row_data box_data
   tables_d b h = record {
     homes_is = homes_other (box_data b) refl;
@@ -115,7 +119,9 @@ module _ {above : List Row} {R : NetReader} (T : NetTables above R) where
     keys_are = no_key (box_data b) (λ e. omega arith);
   }
 
-  pub tables_t : (x : Tuple) {new : Tuples} {keys : Keys} {k : keys.count ≡ new.count} {z : R.tally.size ≤ site_limit} → tuples_of new ≡ tuples_of R.tuples ++ (sites_of x ∷ []) → KeysAre group_t (above ++ (tuple_data group_t x ∷ [])) keys → NetTables (above ++ (row_data (Form.T x) ∷ [])) (record R { tuples = new; keys = keys; keyed = k; size_few = z })
+  pub tables_t : (x : Tuple) {new : Tuples} {keys : Keys} {k : keys.count ≡ new.count} {z : R.tally.size ≤ site_limit} →
+      tuples_of new ≡ tuples_of R.tuples ++ (sites_of x ∷ []) → KeysAre group_t (above ++ (tuple_data group_t x ∷ [])) keys →
+      NetTables (above ++ (row_data (Form.T x) ∷ [])) (record R { tuples = new; keys = keys; keyed = k; size_few = z })
   unfolding row_data tuple_data
   tables_t x h K = record {
     homes_is = homes_other (tuple_data group_t x) refl;
@@ -126,7 +132,9 @@ module _ {above : List Row} {R : NetReader} (T : NetTables above R) where
     keys_are = K;
   }
 
-  pub tables_l : (x : Root) {new : Roots} {k : R.keys.count ≡ R.tuples.count} {z : R.tally.size ≤ site_limit} → roots_of new ≡ roots_of R.roots ++ (root_of (root_data x) ∷ []) → NetTables (above ++ (row_data (Form.L x) ∷ [])) (record R { roots = new; keyed = k; size_few = z })
+  pub tables_l : (x : Root) {new : Roots} {k : R.keys.count ≡ R.tuples.count} {z : R.tally.size ≤ site_limit} →
+      roots_of new ≡ roots_of R.roots ++ (root_of (root_data x) ∷ []) →
+      NetTables (above ++ (row_data (Form.L x) ∷ [])) (record R { roots = new; keyed = k; size_few = z })
   unfolding row_data root_data
   tables_l x h = record {
     homes_is = homes_other (root_data x) refl;
@@ -137,7 +145,9 @@ module _ {above : List Row} {R : NetReader} (T : NetTables above R) where
     keys_are = no_key (root_data x) (λ e. omega arith);
   }
 
-  pub tables_q : (p : Process) {new : Lines} {k : R.keys.count ≡ R.tuples.count} {z : R.tally.size ≤ site_limit} → View.lines_of new ≡ View.lines_of R.lines ++ (line_view p.line ∷ []) → NetTables (above ++ (row_data (Form.Q p) ∷ [])) (record R { lines = new; keyed = k; size_few = z })
+  pub tables_q : (p : Process) {new : Lines} {k : R.keys.count ≡ R.tuples.count} {z : R.tally.size ≤ site_limit} →
+      View.lines_of new ≡ View.lines_of R.lines ++ (line_view p.line ∷ []) →
+      NetTables (above ++ (row_data (Form.Q p) ∷ [])) (record R { lines = new; keyed = k; size_few = z })
   unfolding row_data process_data row_line lines_of
   tables_q p h = record {
     homes_is = homes_other (process_data p) refl;
@@ -149,7 +159,9 @@ module _ {above : List Row} {R : NetReader} (T : NetTables above R) where
   }
 
   -- a row that is in no table is the N row
-  pub tables_rest : (row : FormRow) (t : Tally) → placed_of (row_data row).group t ≡ true → ((p : Pair) → row ≡ Form.R p → ⊥) → ((b : Sandbox) → row ≡ Form.D b → ⊥) → ((x : Tuple) → row ≡ Form.T x → ⊥) → ((x : Root) → row ≡ Form.L x → ⊥) → ((p : Process) → row ≡ Form.Q p → ⊥) → NetTables (above ++ (row_data row ∷ [])) R
+  pub tables_rest : (row : FormRow) (t : Tally) → placed_of (row_data row).group t ≡ true → ((p : Pair) → row ≡ Form.R p → ⊥) →
+      ((b : Sandbox) → row ≡ Form.D b → ⊥) → ((x : Tuple) → row ≡ Form.T x → ⊥) → ((x : Root) → row ≡ Form.L x → ⊥) →
+      ((p : Process) → row ≡ Form.Q p → ⊥) → NetTables (above ++ (row_data row ∷ [])) R
   tables_rest (Form.N n) t h r d u l q = tables_n n
   tables_rest (Form.R p) t h r d u l q = absurd (r p refl)
   tables_rest (Form.D b) t h r d u l q = absurd (d b refl)
@@ -267,7 +279,8 @@ some_group (Form.A x) = refl
 some_group (Form.E x) = refl
 
 -- a row that is let through, in the tally
-pub tally_more : (row : FormRow) {R : NetReader} {above : List Row} → NetTables above R → NetTally above R.tally → Passed row R → NetTally (above ++ (row_data row ∷ [])) (counted_of row R.lines.count R.tally)
+pub tally_more : (row : FormRow) {R : NetReader} {above : List Row} → NetTables above R → NetTally above R.tally → Passed row R →
+    NetTally (above ++ (row_data row ∷ [])) (counted_of row R.lines.count R.tally)
 unfolding placed_of
 tally_more row {R} {above} T Y P =
     let r = row_data row in
@@ -277,7 +290,8 @@ tally_more row {R} {above} T Y P =
       kept = All-append Y.kept (more (as_kept row P.low) done);
       owned = All-append Y.owned (more (owns r.group (and_l _ _ (and_r _ _ P.placed))) done);
       size_is = size_more above r _ r.group t.size r.size Y.first Y.size_is (and_l _ _ (and_l _ _ P.placed)) (and_r _ _ (and_l _ _ P.placed)) (λ e. refl) ∙ sym (counted_size row n t);
-      order = λ x. last_snoc above (last_number t.last) r Y.order (and_r _ _ (and_r _ _ P.placed)) x ∙ ap (λ (g : ℕ). leb g x.group) (sym (counted_last row n t));
+      order = λ x. last_snoc above (last_number t.last) r Y.order (and_r _ _ (and_r _ _ P.placed)) x
+          ∙ ap (λ (g : ℕ). leb g x.group) (sym (counted_last row n t));
       turn = counted_turn above row t Y.turn ∙ ap (λ (n : ℕ). (counted_of row n t).turn) (lines_many T);
       first = some_above above r ∙ sym (ap (λ (g : ℕ). eqb g 0) (counted_last row n t) ∙ some_group row);
     }

@@ -55,18 +55,21 @@ key_end [] (suc n) h = absurd (omega arith)
 key_end (x ∷ xs) zero h = absurd (omega arith)
 key_end (x ∷ xs) (suc n) h = key_end xs n (omega arith)
 
-pub key_at : (xs : List ℕ) (i : ℕ) {rest key : ℕ} → i < length xs → key ≡ get_or xs i 0 + 32 * rest → rest ≡ tuple_key (drop (suc i) xs) → key ≡ tuple_key (drop i xs)
+pub key_at : (xs : List ℕ) (i : ℕ) {rest key : ℕ} → i < length xs → key ≡ get_or xs i 0 + 32 * rest → rest ≡ tuple_key (drop (suc i) xs) →
+    key ≡ tuple_key (drop i xs)
 unfolding tuple_key
 key_at xs i h e r = e ∙ ap (λ (k : ℕ). get_or xs i 0 + 32 * k) r ∙ sym (ap tuple_key (drop-cons xs i 0 h))
 
 -- one entry more
-entries_pushed : (keys new : Keys) (v : ℕ) → keys.count < 256 → new.items ≡ set keys.items keys.count v → new.count ≡ keys.count + 1 → entries new ≡ entries keys ++ (v ∷ [])
+entries_pushed : (keys new : Keys) (v : ℕ) → keys.count < 256 → new.items ≡ set keys.items keys.count v → new.count ≡ keys.count + 1 →
+    entries new ≡ entries keys ++ (v ∷ [])
 entries_pushed keys new v h e n =
     ap₂ (λ (m : ℕ) (xs : List ℕ). take m xs) (n ∙ add-one keys.count) e
     ∙ take-suc-set keys.items keys.count v (omega (arith, keys.long))
 
 -- one key more
-pub keys_own : {g v : ℕ} {above : List Row} {keys new : Keys} (r : Row) → keys.count < 256 → new.items ≡ set keys.items keys.count v → new.count ≡ keys.count + 1 → v ≡ tuple_key r.sites → r.group ≡ g → KeysAre g above keys → KeysAre g (above ++ (r ∷ [])) new
+pub keys_own : {g v : ℕ} {above : List Row} {keys new : Keys} (r : Row) → keys.count < 256 → new.items ≡ set keys.items keys.count v →
+    new.count ≡ keys.count + 1 → v ≡ tuple_key r.sites → r.group ≡ g → KeysAre g above keys → KeysAre g (above ++ (r ∷ [])) new
 keys_own {g} {v} {above} {keys} {new} r h e n q p K = record {
   is =
       entries_pushed keys new v h e n

@@ -124,7 +124,8 @@ pair_alike {s} {t} {s'} {t'} {b} {r} B R e =
     ∙ two_same (λ x y. 32 * x + y) s t s' t' (λ q. (omega (arith, B.t_low, R.t_low), omega (arith, B.t_low, R.t_low)))
     ∙ sym (ap₂ eqb B.placed R.placed)
 
-pub pair_seen : (p : Pair) → p.from < 32 → p.to < 32 → (g : ℕ) → pair_group g ≡ true → (at : ℕ) → at ≡ pair_place (pair_data g p) → (t : List ℕ) {above : List Row} → All Kept above → t ≡ pairs_of g above → not (eqb (get_or t at 0) 0) ≡ repeated above (pair_data g p)
+pub pair_seen : (p : Pair) → p.from < 32 → p.to < 32 → (g : ℕ) → pair_group g ≡ true → (at : ℕ) → at ≡ pair_place (pair_data g p) →
+    (t : List ℕ) {above : List Row} → All Kept above → t ≡ pairs_of g above → not (eqb (get_or t at 0) 0) ≡ repeated above (pair_data g p)
 pair_seen p s u g P at a t {above} K e =
     let R = pair_row g p s u in
     let own = pair_own g p in
@@ -133,7 +134,8 @@ pair_seen p s u g P at a t {above} K e =
     ∙ place_seen (pair_data g p) g own (pair_no_q g P) pair_place (λ b k q. (pair_alike (kept_pair k (of b k q)).1 R (q ∙ sym own), (kept_pair k (of b k q)).1.some)) 1024 (omega (arith, R.placed, R.s_low, R.t_low)) K
 
 -- a place of the sandboxes' table that says rights
-pub box_said : (i : ℕ) → i < boxes_size → {above : List Row} → All Kept above → ltb (get_or (boxes_of unsaid_boxes above) i 0) unsaid ≡ taken i (of_group group_d above)
+pub box_said : (i : ℕ) → i < boxes_size → {above : List Row} → All Kept above →
+    ltb (get_or (boxes_of unsaid_boxes above) i 0) unsaid ≡ taken i (of_group group_d above)
 box_said i h {above} K =
     boxes_mark i unsaid unsaid_boxes (of_group group_d above) (omega (arith, length-replicate {A = ℕ} boxes_size unsaid)) (omega (arith, get_or-replicate {A = ℕ} boxes_size i unsaid 0 h)) (All-turn (λ b k. (kept_box k.0 k.1).said) (kept_of group_d K))
 
@@ -144,7 +146,8 @@ bound_alike {u} {s} {v} {t} {b} {r} B R e =
     ∙ two_keys u s v t
     ∙ sym (ap₂ ◌&◌ (ap₂ eqb B.var_is R.var_is) (ap₂ eqb B.site_is R.site_is))
 
-pub box_seen : (x : Sandbox) → in_limits (box_data x) ≡ true → (at : ℕ) → at ≡ box_place (box_data x) → (t : List ℕ) {above : List Row} → All Kept above → t ≡ boxes_of unsaid_boxes above → ltb (get_or t at 0) unsaid ≡ repeated above (box_data x)
+pub box_seen : (x : Sandbox) → in_limits (box_data x) ≡ true → (at : ℕ) → at ≡ box_place (box_data x) → (t : List ℕ) {above : List Row} →
+    All Kept above → t ≡ boxes_of unsaid_boxes above → ltb (get_or t at 0) unsaid ≡ repeated above (box_data x)
 box_seen x L at a t {above} K e =
     let R = box_row x L in
     let own = box_own x in
@@ -152,7 +155,8 @@ box_seen x L at a t {above} K e =
     ∙ box_said (box_place (box_data x)) (place_low (box_data x) R.low R.shaped) K
     ∙ sym (repeat_any (box_data x) group_d own refl (λ b. eqb (box_place b) (box_place (box_data x))) (λ b k q. let B = kept_box k q in places_keys B.shaped R.shaped B.low R.low (q ∙ sym own)) K)
 
-pub bound_seen : (x : Bound) → x.variable < 32 → x.site < 32 → (t : List ℕ) {above : List Row} → All Kept above → t ≡ bounds_of above → mem x.site (get_or t x.variable 0) ≡ repeated above (bound_data x)
+pub bound_seen : (x : Bound) → x.variable < 32 → x.site < 32 → (t : List ℕ) {above : List Row} → All Kept above → t ≡ bounds_of above →
+    mem x.site (get_or t x.variable 0) ≡ repeated above (bound_data x)
 bound_seen x u s t {above} K e =
     let R = bound_row x u s in
     let own = bound_own x in

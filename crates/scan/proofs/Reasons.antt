@@ -1,6 +1,7 @@
 -- The tests of a row in their order.
 -- Assumes nothing.
-use mathlib.Core.Path.{◌≡◌, refl}
+use mathlib.Core.Path.{◌≡◌, refl, sym, ap, ap₂, ◌∙◌}
+use Prim.Native.Nat.{ℕ}
 use mathlib.Core.Bool.{Bool, true, false, not, cond}
 use mathlib.Core.List.{List}
 use mathlib.Core.Option.{some}
@@ -14,6 +15,10 @@ use Rattle.klaim.specs.Reader.{Text, in_limits, of_group, full, over, headed, ow
 use Rattle.klaim.specs.Refusals.{number_of}
 use Rattle.klaim.specs.declared.Reason.{Reason}
 use Rattle.klaim.specs.declared.Reason.TheVariants.{Form, Limit, Place, Site, Turn, Naming, Clash, Free, Buffer, Thread, Tuple, Agreement, Arrival, Door, Right, Room, Newest, Occupied}
+use Rattle.forms.specs.declared.rows.Group.{Group}
+use Rattle.forms.specs.declared.rows.Row as Form
+use Rattle.forms.specs.Forms.{group_number, group_of, row_data}
+use Rattle.forms.proofs.Groups.{group_is}
 use Rattle.scan.specs.Reasons.{Judging, limited_of, early_of, late_of, judging_of, judged_by}
 
 -- the five tests of a row of good form
@@ -33,6 +38,14 @@ by_tests true false true false false false r = refl
 pub formed : (t : Text) (above : List Row) (r : Row) → judge t above (some r) ≡ judged_by (judging_of (early_of r (full t r.group (length (of_group r.group above))) (headed t above r & own t r.group & in_order above r)) (repeated above r) (late_of (site_count t above) r)) r
 unfolding judge over misplaced
 formed t above r = by_tests (in_limits r) (full t r.group (length (of_group r.group above))) (headed t above r & own t r.group & in_order above r) (repeated above r) (absent (site_count t above) r) (clash (template r.process)) r
+
+-- the code's tests ask by the group of a row, the definitions by its number
+pub early_is : (row : Form.Row) (full placed : ℕ → Bool) {g : Group} {f p : Bool} {j : Judging} →
+    g ≡ group_of row → f ≡ full (group_number g) → p ≡ placed (group_number g) → j ≡ early_of (row_data row) f p →
+    early_of (row_data row) (full (row_data row).group) (placed (row_data row).group) ≡ j
+early_is row full placed {g} {f} {p} {j} e a b h =
+    let q : (row_data row).group ≡ group_number g = group_is row ∙ ap group_number (sym e) in
+    ap₂ (early_of (row_data row)) (ap full q ∙ sym a) (ap placed q ∙ sym b) ∙ sym h
 
 -- what is known of a row that 2 and the order let through
 pub early_passed : (r : Row) {full placed : Bool} → early_of r full placed ≡ Ok tt → (in_limits r ≡ true) × (full ≡ false) × (placed ≡ true)

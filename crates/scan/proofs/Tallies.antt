@@ -55,7 +55,8 @@ module _ (above : List Row) (r : Row) where
   turn_own e =
       let q = eq-eqb r.group group_q e in
       let n = length (lines_of above) in
-      let many : length (lines_of (above ++ (r ∷ []))) ≡ n + 1 = ap length (map_own (λ r. r.process) group_q above r q) ∙ length-append (lines_of above) (r.process ∷ []) in
+      let many : length (lines_of (above ++ (r ∷ []))) ≡ n + 1 = ap length (map_own (λ r. r.process) group_q above r q)
+      ∙ length-append (lines_of above) (r.process ∷ []) in
       rw (many, map_own (λ r. nth r.lines 0) group_q above r q, below_snoc n) (same_snoc (numbers_of above) (below n) (nth r.lines 0) n)
 
   turn_other : eqb r.group group_q ≡ false → in_turn (above ++ (r ∷ [])) ≡ in_turn above
@@ -82,7 +83,8 @@ none_full t g above O h limit o z = go (eqb g h) refl
     go false e = refl
 
 -- the tally with a row more
-pub counted_other : (r : Form.Row) (n : ℕ) (t : Tally) → ((k : ℕ) → r ≡ N k → ⊥) → ((p : Process) → r ≡ Q p → ⊥) → record t { last = Some (group_of r) } ≡ counted_of r n t
+pub counted_other : (r : Form.Row) (n : ℕ) (t : Tally) → ((k : ℕ) → r ≡ N k → ⊥) → ((p : Process) → r ≡ Q p → ⊥) →
+    record t { last = Some (group_of r) } ≡ counted_of r n t
 counted_other (N k) n t a b = absurd (a k refl)
 counted_other (R p) n t a b = refl
 counted_other (D x) n t a b = refl
@@ -118,7 +120,8 @@ counted_last (B x) n t = refl
 counted_last (A x) n t = refl
 counted_last (E x) n t = refl
 
-pub counted_turn : (above : List Row) (r : Form.Row) (t : Tally) → in_turn above ≡ t.turn → in_turn (above ++ (row_data r ∷ [])) ≡ (counted_of r (length (lines_of above)) t).turn
+pub counted_turn : (above : List Row) (r : Form.Row) (t : Tally) → in_turn above ≡ t.turn →
+    in_turn (above ++ (row_data r ∷ [])) ≡ (counted_of r (length (lines_of above)) t).turn
 unfolding row_data size_data pair_data box_data tuple_data root_data process_data bound_data row_line
 counted_turn above (N x) t e = turn_other above (size_data x) refl ∙ e
 counted_turn above (R x) t e = turn_other above (pair_data group_r x) refl ∙ e

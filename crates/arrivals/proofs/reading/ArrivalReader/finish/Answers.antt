@@ -15,4 +15,5 @@ returns-in_err-whole c = λ t rows H.
 pub returns : goal.returns
 returns c = λ t rows H.
     let r = c.args.self.now in
-    ap (λ (j : Judging). whole_answer j (lines_of r.lines)) (sym c.in_ok-whole.was ∙ c.whole.ensures) ∙ arrival_is _ H (root_zero c.empty-root.result c.push.new.self c.empty-root.ensures.count c.push.ensures.items c.push.ensures.count)
+    ap (λ (j : Judging). whole_answer j (lines_of r.lines)) (sym c.in_ok-whole.was ∙ c.whole.ensures)
+    ∙ arrival_is _ H (root_zero c.empty-root.result c.push.new.self c.empty-root.ensures.count c.push.ensures.items c.push.ensures.count)

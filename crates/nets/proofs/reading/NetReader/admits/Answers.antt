@@ -1,12 +1,10 @@
 use mathlib.Core.Path.{sym, ap, ap₂, ◌∙◌}
 use mathlib.Core.Bool.{Bool}
-use Prim.Native.Nat.{ℕ}
 use Rattle.std.proofs.lemmas.Result.{err_from_is_err_and}
 use Rattle.klaim.specs.Reader.{repeated}
-use Rattle.forms.specs.Forms.{group_number, row_data}
-use Rattle.forms.proofs.Groups.{group_is}
-use Rattle.scan.specs.Reasons.{Judging, early_of, late_of, judging_of, judged_by}
-use Rattle.scan.proofs.Reasons.{early_passed, if_ok}
+use Rattle.forms.specs.Forms.{row_data}
+use Rattle.scan.specs.Reasons.{Judging, late_of, judging_of, judged_by}
+use Rattle.scan.proofs.Reasons.{early_is, early_passed, if_ok}
 use Rattle.nets.specs.Rows.{full_of, placed_of}
 use Rattle.nets.proofs.Rows.{judged_is}
 use Rattle.nets.proofs.reading.NetReader.admits.Goals as goal
@@ -15,17 +13,16 @@ pub returns-in_err-early-clause-judged : goal.returns-in_err-early-clause-judged
 returns-in_err-early-clause-judged c = λ above H.
     let r = row_data c.args.row.now in
     let R = c.args.self.now in
-    let q = ap group_number c.group-group.ensures ∙ sym (group_is c.args.row.now) in
-    let e = sym (c.early.ensures ∙ ap₂ (early_of r) (c.is_full.ensures ∙ ap (λ (g : ℕ). full_of g R) q) (c.is_placed.ensures ∙ ap (λ (g : ℕ). placed_of g R.tally) q)) ∙ c.in_err-early.was in
+    let e = early_is c.args.row.now (λ g. full_of g R) (λ g. placed_of g R.tally) c.group-group.ensures c.is_full.ensures c.is_placed.ensures c.early.ensures ∙ c.in_err-early.was in
     let p = err_from_is_err_and c.from_residual.result c.from_residual.ensures.1 in
-    rw (p.1, p.2) (judged_is r H.tables H.counts ∙ ap (λ (j : Judging). judged_by (judging_of j (repeated above r) (late_of R.tally.size r)) r) e)
+    rw (p.1, p.2) (judged_is r H.tables H.counts
+    ∙ ap (λ (j : Judging). judged_by (judging_of j (repeated above r) (late_of R.tally.size r)) r) e)
 
 pub is_seen-requires : goal.is_seen-requires
 is_seen-requires c =
     let r = row_data c.args.row.now in
     let R = c.args.self.now in
-    let q = ap group_number c.group-group.ensures ∙ sym (group_is c.args.row.now) in
-    let e = sym (c.early.ensures ∙ ap₂ (early_of r) (c.is_full.ensures ∙ ap (λ (g : ℕ). full_of g R) q) (c.is_placed.ensures ∙ ap (λ (g : ℕ). placed_of g R.tally) q)) ∙ c.in_ok-early.was in
+    let e = early_is c.args.row.now (λ g. full_of g R) (λ g. placed_of g R.tally) c.group-group.ensures c.is_full.ensures c.is_placed.ensures c.early.ensures ∙ c.in_ok-early.was in
     let E = early_passed r e in
     record { low = E.0; placed = E.2 }
 
@@ -33,23 +30,23 @@ pub returns-then-is_seen-clause-judged : goal.returns-then-is_seen-clause-judged
 returns-then-is_seen-clause-judged c = λ above H.
     let r = row_data c.args.row.now in
     let R = c.args.self.now in
-    let q = ap group_number c.group-group.ensures ∙ sym (group_is c.args.row.now) in
-    let e = sym (c.early.ensures ∙ ap₂ (early_of r) (c.is_full.ensures ∙ ap (λ (g : ℕ). full_of g R) q) (c.is_placed.ensures ∙ ap (λ (g : ℕ). placed_of g R.tally) q)) ∙ c.in_ok-early.was in
-    judged_is r H.tables H.counts ∙ ap₂ (λ (j : Judging) (b : Bool). judged_by (judging_of j b (late_of R.tally.size r)) r) e (sym (c.is_seen.ensures above H) ∙ c.if-is_seen.true)
+    let e = early_is c.args.row.now (λ g. full_of g R) (λ g. placed_of g R.tally) c.group-group.ensures c.is_full.ensures c.is_placed.ensures c.early.ensures ∙ c.in_ok-early.was in
+    judged_is r H.tables H.counts
+    ∙ ap₂ (λ (j : Judging) (b : Bool). judged_by (judging_of j b (late_of R.tally.size r)) r) e (sym (c.is_seen.ensures above H) ∙ c.if-is_seen.true)
 
 pub returns-clause-judged : goal.returns-clause-judged
 returns-clause-judged c = λ above H.
     let r = row_data c.args.row.now in
     let R = c.args.self.now in
-    let q = ap group_number c.group-group.ensures ∙ sym (group_is c.args.row.now) in
-    let e = sym (c.early.ensures ∙ ap₂ (early_of r) (c.is_full.ensures ∙ ap (λ (g : ℕ). full_of g R) q) (c.is_placed.ensures ∙ ap (λ (g : ℕ). placed_of g R.tally) q)) ∙ c.in_ok-early.was in
-    judged_is r H.tables H.counts ∙ ap₂ (λ (j : Judging) (b : Bool). judged_by (judging_of j b (late_of R.tally.size r)) r) e (sym (c.is_seen.ensures above H) ∙ c.if-is_seen.false) ∙ ap (λ (j : Judging). judged_by j r) (sym c.late.ensures)
+    let e = early_is c.args.row.now (λ g. full_of g R) (λ g. placed_of g R.tally) c.group-group.ensures c.is_full.ensures c.is_placed.ensures c.early.ensures ∙ c.in_ok-early.was in
+    judged_is r H.tables H.counts
+    ∙ ap₂ (λ (j : Judging) (b : Bool). judged_by (judging_of j b (late_of R.tally.size r)) r) e (sym (c.is_seen.ensures above H) ∙ c.if-is_seen.false)
+    ∙ ap (λ (j : Judging). judged_by j r) (sym c.late.ensures)
 
 pub returns-clause-passed : goal.returns-clause-passed
 returns-clause-passed c =
     let r = row_data c.args.row.now in
     let R = c.args.self.now in
-    let q = ap group_number c.group-group.ensures ∙ sym (group_is c.args.row.now) in
-    let e = sym (c.early.ensures ∙ ap₂ (early_of r) (c.is_full.ensures ∙ ap (λ (g : ℕ). full_of g R) q) (c.is_placed.ensures ∙ ap (λ (g : ℕ). placed_of g R.tally) q)) ∙ c.in_ok-early.was in
+    let e = early_is c.args.row.now (λ g. full_of g R) (λ g. placed_of g R.tally) c.group-group.ensures c.is_full.ensures c.is_placed.ensures c.early.ensures ∙ c.in_ok-early.was in
     let E = early_passed r e in
     if_ok c.late.result (record { low = E.0; room = E.1; placed = E.2 })
