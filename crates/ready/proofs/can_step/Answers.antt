@@ -3,8 +3,7 @@ use mathlib.Core.Path.{◌≡◌, refl, sym, ap, ◌∙◌}
 use Prim.Native.Nat.{ℕ}
 use lib.Dec.{ltb}
 use lib.ListN.{length}
-use Rattle.tables.specs.View.{action_line, InForm}
-use Rattle.tables.proofs.LineTable.{next}
+use Rattle.tables.specs.View.{action_line}
 use Rattle.tuples.proofs.Rows.{rows_long}
 use Rattle.state.specs.View.{state_view}
 use Rattle.state.proofs.Few.{threads_count}
@@ -42,12 +41,6 @@ returns-in-In c = elim c.in-In.is [
   | inl e ↦ runs_at c.requires c.action.ensures e.1 c.some_agrees.ensures
   | inr e ↦ runs_at c.requires c.action.ensures e.1 c.some_agrees.ensures
 ]
-
-pub some_guest-requires : goal.some_guest-requires
-unfolding state_view
-some_guest-requires c =
-    let w : InForm c.args.state.now.lines c.args.th.now.line = record { in_order = c.requires.fits.invariant.lines_ordered; present = c.requires.present } in
-    (c.requires.fits, c.requires.placed, (next w c.action.ensures c.in-Accept.is).1)
 
 pub returns-in-Accept : goal.returns-in-Accept
 unfolding runs action_line

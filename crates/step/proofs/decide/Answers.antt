@@ -1,9 +1,6 @@
-use mathlib.Core.Path.{sym, subst, ◌∙◌}
-use Prim.Native.Nat.{◌<◌}
+use mathlib.Core.Path.{sym, ◌∙◌}
 use native.Mathlib.Omega.{arith}
 use Rattle.std.proofs.lemmas.Result.{err_from_is_err_and}
-use Rattle.plan.specs.declared.Change.{Change}
-use Rattle.plan.specs.Move.{IsChange}
 use Rattle.plan.proofs.Fitted.{plannable}
 use Rattle.state.specs.View.{state_view}
 use Rattle.state.proofs.Few.{sites_few}
@@ -23,11 +20,6 @@ returns-in_err-v c =
 
 pub may-requires : goal.may-requires
 may-requires c = (omega (arith, (plannable c.requires c.args.k c.if-state-k.false).placed, sites_few c.requires), c.in_ok-v.ensures.possible.uses)
-
-pub has_room-requires : goal.has_room-requires
-has_room-requires c =
-    let p = c.in_ok-v.ensures.possible.change in
-    (c.requires, omega (arith, c.if-state-k.false), λ e. let h : c.args.m < c.args.state.now.tuples.count = subst (λ (x : Change). IsChange c.args.m c.args.state.now.tuples.count x) e p in omega (arith, h))
 
 pub returns-then-not-may : goal.returns-then-not-may
 unfolding state_view
