@@ -2,7 +2,7 @@
 #![tactic(auto)]
 
 ghost use Rattle.std.specs.Prelude.{◌≡◌, true, not, ◌∷◌, map, ℕ, ◌<◌, ◌≤◌, ◌+◌, ◌*◌, ◌^◌, min, ltb, length, take, get_or};
-ghost use Rattle.sets.specs.Lists.{All, ◌&◌, either, imp, all, any, keep, same, below, table, fits, product};
+ghost use Rattle.sets.specs.Lists.{All, ◌&◌, either, imp, all, any, keep, same, below, fits, product};
 ghost use Rattle.sets.specs.Bits.{mem, sites};
 ghost use Rattle.klaim.specs.Analysis.{choices as all_choices};
 ghost use Rattle.klaim.specs.Invariant.{all_below, distinct};
@@ -70,18 +70,25 @@ struct RowSet {
     words: [u64; WORDS],
 }
 
-// What a tuple has in each column: 0 past its end.
-fn columns(tuple: &Tuple) -> [u8; COLUMNS]
-    ensures value { result ≡ table 6 (in_column (tuple_view tuple.now)) }
-    ensures low { (c : ℕ) → c < 6 → get_or result c 0 < 32 }
+// The site at place j of a tuple, 0 past its end.
+fn site_at(tuple: &Tuple, j: usize) -> u8
+    ensures { result ≡ get_or (tuple_view tuple.now) j 0 }
 {
-    let s = tuple.site % 32;
-    match &tuple.fields {
-        Fields::One(a) => [2, s, a[0] % 32, 0, 0, 0],
-        Fields::Two(a) => [3, s, a[0] % 32, a[1] % 32, 0, 0],
-        Fields::Three(a) => [4, s, a[0] % 32, a[1] % 32, a[2] % 32, 0],
-        Fields::Four(a) => [5, s, a[0] % 32, a[1] % 32, a[2] % 32, a[3] % 32],
+    if j == 0 {
+        return tuple.site;
     }
+    let fields = tuple.fields.as_slice();
+    if j <= fields.len() { fields[j - 1] } else { 0 }
+}
+
+// What a tuple has in column c.
+fn key(tuple: &Tuple, c: usize) -> usize
+    ensures { (result ≡ in_column (tuple_view tuple.now) c) × (result < 32) }
+{
+    if c == 0 {
+        return tuple.len();
+    }
+    usize::from(site_at(tuple, c - 1) % 32)
 }
 
 impl RowIndex {
@@ -102,9 +109,8 @@ impl RowIndex {
         ensures { Entered (tuple_view row.now) i 6 self.old.sets self.new.sets }
     {
         let bit = 1u64 << (i % 64);
-        let columns = columns(row);
         for c in 0..COLUMNS {
-            let at = 128 * c + 4 * usize::from(columns[c]) + i / 64;
+            let at = 128 * c + 4 * key(row, c) + i / 64;
             self.sets[at] |= bit;
         }
     }
