@@ -14,6 +14,9 @@ use klaim::Fields;
 use std::array;
 use tables::{SITES, Tuple, Tuples};
 
+// The sites of a row at most: its own, then four fields.
+pub const ROW: usize = 5;
+
 // More than the rows of a table.
 const MANY: u32 = 257;
 
@@ -38,7 +41,7 @@ fn times(c: u32, p: u32) -> u32
 }
 
 // How many choices of one site from each of the first m sets there are, or 257 where there are more.
-fn choices(reaches: [u32; 5], m: usize) -> u32
+fn choices(reaches: [u32; ROW], m: usize) -> u32
     requires { m ≤ 5 }
     ensures { result ≡ min (product (map sites (take m reaches))) 257 }
 {
@@ -50,7 +53,7 @@ fn choices(reaches: [u32; 5], m: usize) -> u32
 }
 
 // The columns of an index: in column 0 stands how many sites a row has, in the others its sites in order.
-const COLUMNS: usize = 6;
+const COLUMNS: usize = ROW + 1;
 
 // The words of a set of rows.
 const WORDS: usize = 4;
@@ -183,7 +186,7 @@ fn kept(index: &RowIndex, had: RowSet, c: usize, set: u32) -> RowSet
 }
 
 // Of some rows with m sites those with each site within its set.
-fn narrowed(index: &RowIndex, had: RowSet, reaches: [u32; 5], m: usize) -> RowSet
+fn narrowed(index: &RowIndex, had: RowSet, reaches: [u32; ROW], m: usize) -> RowSet
     requires { m ≤ 5 }
     ensures { (rows : Rows) → Indexed rows index.now.sets → Low rows → Long rows m had.words → (i : ℕ) → i < 256 → in_rows result.words i ≡ (in_rows had.words i & fits (map sites (take m reaches)) (row_at rows i)) }
 {
@@ -195,7 +198,7 @@ fn narrowed(index: &RowIndex, had: RowSet, reaches: [u32; 5], m: usize) -> RowSe
 }
 
 // The rows with m sites, each within its set.
-fn chosen(index: &RowIndex, reaches: [u32; 5], m: usize) -> RowSet
+fn chosen(index: &RowIndex, reaches: [u32; ROW], m: usize) -> RowSet
     requires { m ≤ 5 }
     ensures { (rows : Rows) → Indexed rows index.now.sets → Low rows → (i : ℕ) → i < 256 → in_rows result.words i ≡ (ltb i rows.count & fits (map sites (take m reaches)) (row_at rows i)) }
 {
@@ -219,7 +222,7 @@ fn same_rows(x: RowSet, y: RowSet) -> bool
 }
 
 // Whether each row that lies within the sets `want` lies within the sets `allow` too.
-pub fn every_bound(index: &RowIndex, want: [u32; 5], allow: [u32; 5], m: usize) -> bool
+pub fn every_bound(index: &RowIndex, want: [u32; ROW], allow: [u32; ROW], m: usize) -> bool
     requires { m ≤ 5 }
     ensures { (rows : Rows) → Indexed rows index.now.sets → Low rows → result ≡ all (λ row. imp (fits (map sites (take m want)) row) (fits (map sites (take m allow)) row)) (tuples_of rows) }
 {
@@ -230,7 +233,7 @@ pub fn every_bound(index: &RowIndex, want: [u32; 5], allow: [u32; 5], m: usize) 
 
 // Whether every choice of one site from each of the m sets has a row.
 // The rows are distinct, so it is enough to count those within the sets.
-pub fn every_choice(index: &RowIndex, reaches: [u32; 5], m: usize) -> bool
+pub fn every_choice(index: &RowIndex, reaches: [u32; ROW], m: usize) -> bool
     requires { m ≤ 5 }
     ensures { (rows : Rows) → Indexed rows index.now.sets → Low rows → distinct (tuples_of rows) ≡ true → result ≡ all_choices (map sites (take m reaches)) (λ t. any (same t) (tuples_of rows)) }
 {
@@ -243,7 +246,7 @@ pub fn every_choice(index: &RowIndex, reaches: [u32; 5], m: usize) -> bool
 }
 
 // The given set for the target, then one for each field.
-pub fn sets_of<T: Copy, F: Fn(T) -> u32>(fields: &Fields<T>, first: u32, set: F) -> [u32; 5]
+pub fn sets_of<T: Copy, F: Fn(T) -> u32>(fields: &Fields<T>, first: u32, set: F) -> [u32; ROW]
     requires { All (F.pre set) (items fields.now) }
     ensures { (g : T → ℕ) → ((x : T) (y : ℕ) → F.post set x y → y ≡ g x) → take (length (items fields.now) + 1) result ≡ first ∷ map g (items fields.now) }
 {
@@ -255,7 +258,7 @@ pub fn sets_of<T: Copy, F: Fn(T) -> u32>(fields: &Fields<T>, first: u32, set: F)
 }
 
 // For each site of a tuple the set of it alone.
-fn singles(tuple: &Tuple) -> [u32; 5]
+fn singles(tuple: &Tuple) -> [u32; ROW]
     requires { all_below 32 (tuple_view tuple.now) ≡ true }
     ensures { take (length (tuple_view tuple.now)) result ≡ map (λ v. 2 ^ v) (tuple_view tuple.now) }
 {
