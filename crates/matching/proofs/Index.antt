@@ -180,33 +180,15 @@ key_later row j = ap (in_column row) (add-one j)
 pub key_low : (row : List ℕ) (j : ℕ) → in_column row (j + 1) < 32
 key_low row j = subst (λ (x : ℕ). x < 32) (sym (key_later row j)) (omega arith)
 
--- the columns of a row with one field, with two, three, four
-module _ (s : ℕ) where
-  abbrev all_columns : List ℕ → List ℕ
-  all_columns xs = table 6 (in_column (s ∷ xs))
+-- what a row has in a column, by the number of the column
+pub column_first : (row : List ℕ) (c : ℕ) → c ≡ 0 → length row ≡ in_column row c
+unfolding in_column
+column_first row c e = sym (ap (in_column row) e)
 
-  abbrev site : List ℕ → ℕ → ℕ
-  site xs j = get_or xs j 0 % 32
-
-  pub columns_one : (xs : List ℕ) → length xs ≡ 1 → all_columns xs ≡ (2 ∷ s % 32 ∷ site xs 0 ∷ 0 ∷ 0 ∷ 0 ∷ [])
-  unfolding in_column table table_from
-  columns_one (a ∷ []) h = refl
-  columns_one xs h = absurd (omega arith)
-
-  pub columns_two : (xs : List ℕ) → length xs ≡ 2 → all_columns xs ≡ (3 ∷ s % 32 ∷ site xs 0 ∷ site xs 1 ∷ 0 ∷ 0 ∷ [])
-  unfolding in_column table table_from
-  columns_two (a ∷ b ∷ []) h = refl
-  columns_two xs h = absurd (omega arith)
-
-  pub columns_three : (xs : List ℕ) → length xs ≡ 3 → all_columns xs ≡ (4 ∷ s % 32 ∷ site xs 0 ∷ site xs 1 ∷ site xs 2 ∷ 0 ∷ [])
-  unfolding in_column table table_from
-  columns_three (a ∷ b ∷ c ∷ []) h = refl
-  columns_three xs h = absurd (omega arith)
-
-  pub columns_four : (xs : List ℕ) → length xs ≡ 4 → all_columns xs ≡ (5 ∷ s % 32 ∷ site xs 0 ∷ site xs 1 ∷ site xs 2 ∷ site xs 3 ∷ [])
-  unfolding in_column table table_from
-  columns_four (a ∷ b ∷ c ∷ d ∷ []) h = refl
-  columns_four xs h = absurd (omega arith)
+pub column_later : (row : List ℕ) (c : ℕ) → (c ≡ 0 → ⊥) → get_or row (c - 1) 0 % 32 ≡ in_column row c
+unfolding in_column
+column_later row zero h = absurd (h refl)
+column_later row (suc j) h = ap (λ (k : ℕ). get_or row k 0 % 32) (omega arith)
 
 pub bit_one : (p : ℕ) → p < 64 → 1 * 2 ^ p % 18446744073709551616 ≡ 2 ^ p
 bit_one p h = shl_exact {a = 1} 1 p 64 (omega arith) (omega arith) ∙ one-mul (2 ^ p)

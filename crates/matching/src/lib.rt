@@ -2,7 +2,7 @@
 #![tactic(auto)]
 
 ghost use Rattle.std.specs.Prelude.{◌≡◌, true, not, ◌∷◌, map, ℕ, ◌<◌, ◌≤◌, ◌+◌, ◌*◌, ◌^◌, min, ltb, length, take, get_or};
-ghost use Rattle.sets.specs.Lists.{All, ◌&◌, either, imp, all, any, keep, same, below, table, fits, product};
+ghost use Rattle.sets.specs.Lists.{All, ◌&◌, either, imp, all, any, keep, same, below, fits, product};
 ghost use Rattle.sets.specs.Bits.{mem, sites};
 ghost use Rattle.klaim.specs.Analysis.{choices as all_choices};
 ghost use Rattle.klaim.specs.Invariant.{all_below, distinct};
@@ -13,6 +13,9 @@ ghost use Rattle.matching.specs.Index.{in_column, in_rows, in_index, Indexed, En
 use klaim::Fields;
 use std::array;
 use tables::{SITES, Tuple, Tuples};
+
+// The sites of a row at most: its own, then four fields.
+pub const ROW: usize = 5;
 
 // More than the rows of a table.
 const MANY: u32 = 257;
@@ -38,7 +41,7 @@ fn times(c: u32, p: u32) -> u32
 }
 
 // How many choices of one site from each of the first m sets there are, or 257 where there are more.
-fn choices(reaches: [u32; 5], m: usize) -> u32
+fn choices(reaches: [u32; ROW], m: usize) -> u32
     requires { m ≤ 5 }
     ensures { result ≡ min (product (map sites (take m reaches))) 257 }
 {
@@ -50,7 +53,7 @@ fn choices(reaches: [u32; 5], m: usize) -> u32
 }
 
 // The columns of an index: in column 0 stands how many sites a row has, in the others its sites in order.
-const COLUMNS: usize = 6;
+const COLUMNS: usize = ROW + 1;
 
 // The words of a set of rows.
 const WORDS: usize = 4;
@@ -70,18 +73,25 @@ struct RowSet {
     words: [u64; WORDS],
 }
 
-// What a tuple has in each column: 0 past its end.
-fn columns(tuple: &Tuple) -> [u8; COLUMNS]
-    ensures value { result ≡ table 6 (in_column (tuple_view tuple.now)) }
-    ensures low { (c : ℕ) → c < 6 → get_or result c 0 < 32 }
+// The site at place j of a tuple, 0 past its end.
+fn site_at(tuple: &Tuple, j: usize) -> u8
+    ensures { result ≡ get_or (tuple_view tuple.now) j 0 }
 {
-    let s = tuple.site % 32;
-    match &tuple.fields {
-        Fields::One(a) => [2, s, a[0] % 32, 0, 0, 0],
-        Fields::Two(a) => [3, s, a[0] % 32, a[1] % 32, 0, 0],
-        Fields::Three(a) => [4, s, a[0] % 32, a[1] % 32, a[2] % 32, 0],
-        Fields::Four(a) => [5, s, a[0] % 32, a[1] % 32, a[2] % 32, a[3] % 32],
+    if j == 0 {
+        return tuple.site;
     }
+    let fields = tuple.fields.as_slice();
+    if j <= fields.len() { fields[j - 1] } else { 0 }
+}
+
+// What a tuple has in column c.
+fn key(tuple: &Tuple, c: usize) -> usize
+    ensures { (result ≡ in_column (tuple_view tuple.now) c) × (result < 32) }
+{
+    if c == 0 {
+        return tuple.len();
+    }
+    usize::from(site_at(tuple, c - 1) % 32)
 }
 
 impl RowIndex {
@@ -102,9 +112,8 @@ impl RowIndex {
         ensures { Entered (tuple_view row.now) i 6 self.old.sets self.new.sets }
     {
         let bit = 1u64 << (i % 64);
-        let columns = columns(row);
         for c in 0..COLUMNS {
-            let at = 128 * c + 4 * usize::from(columns[c]) + i / 64;
+            let at = 128 * c + 4 * key(row, c) + i / 64;
             self.sets[at] |= bit;
         }
     }
@@ -177,7 +186,7 @@ fn kept(index: &RowIndex, had: RowSet, c: usize, set: u32) -> RowSet
 }
 
 // Of some rows with m sites those with each site within its set.
-fn narrowed(index: &RowIndex, had: RowSet, reaches: [u32; 5], m: usize) -> RowSet
+fn narrowed(index: &RowIndex, had: RowSet, reaches: [u32; ROW], m: usize) -> RowSet
     requires { m ≤ 5 }
     ensures { (rows : Rows) → Indexed rows index.now.sets → Low rows → Long rows m had.words → (i : ℕ) → i < 256 → in_rows result.words i ≡ (in_rows had.words i & fits (map sites (take m reaches)) (row_at rows i)) }
 {
@@ -189,7 +198,7 @@ fn narrowed(index: &RowIndex, had: RowSet, reaches: [u32; 5], m: usize) -> RowSe
 }
 
 // The rows with m sites, each within its set.
-fn chosen(index: &RowIndex, reaches: [u32; 5], m: usize) -> RowSet
+fn chosen(index: &RowIndex, reaches: [u32; ROW], m: usize) -> RowSet
     requires { m ≤ 5 }
     ensures { (rows : Rows) → Indexed rows index.now.sets → Low rows → (i : ℕ) → i < 256 → in_rows result.words i ≡ (ltb i rows.count & fits (map sites (take m reaches)) (row_at rows i)) }
 {
@@ -213,7 +222,7 @@ fn same_rows(x: RowSet, y: RowSet) -> bool
 }
 
 // Whether each row that lies within the sets `want` lies within the sets `allow` too.
-pub fn every_bound(index: &RowIndex, want: [u32; 5], allow: [u32; 5], m: usize) -> bool
+pub fn every_bound(index: &RowIndex, want: [u32; ROW], allow: [u32; ROW], m: usize) -> bool
     requires { m ≤ 5 }
     ensures { (rows : Rows) → Indexed rows index.now.sets → Low rows → result ≡ all (λ row. imp (fits (map sites (take m want)) row) (fits (map sites (take m allow)) row)) (tuples_of rows) }
 {
@@ -224,7 +233,7 @@ pub fn every_bound(index: &RowIndex, want: [u32; 5], allow: [u32; 5], m: usize) 
 
 // Whether every choice of one site from each of the m sets has a row.
 // The rows are distinct, so it is enough to count those within the sets.
-pub fn every_choice(index: &RowIndex, reaches: [u32; 5], m: usize) -> bool
+pub fn every_choice(index: &RowIndex, reaches: [u32; ROW], m: usize) -> bool
     requires { m ≤ 5 }
     ensures { (rows : Rows) → Indexed rows index.now.sets → Low rows → distinct (tuples_of rows) ≡ true → result ≡ all_choices (map sites (take m reaches)) (λ t. any (same t) (tuples_of rows)) }
 {
@@ -237,7 +246,7 @@ pub fn every_choice(index: &RowIndex, reaches: [u32; 5], m: usize) -> bool
 }
 
 // The given set for the target, then one for each field.
-pub fn sets_of<T: Copy, F: Fn(T) -> u32>(fields: &Fields<T>, first: u32, set: F) -> [u32; 5]
+pub fn sets_of<T: Copy, F: Fn(T) -> u32>(fields: &Fields<T>, first: u32, set: F) -> [u32; ROW]
     requires { All (F.pre set) (items fields.now) }
     ensures { (g : T → ℕ) → ((x : T) (y : ℕ) → F.post set x y → y ≡ g x) → take (length (items fields.now) + 1) result ≡ first ∷ map g (items fields.now) }
 {
@@ -249,7 +258,7 @@ pub fn sets_of<T: Copy, F: Fn(T) -> u32>(fields: &Fields<T>, first: u32, set: F)
 }
 
 // For each site of a tuple the set of it alone.
-fn singles(tuple: &Tuple) -> [u32; 5]
+fn singles(tuple: &Tuple) -> [u32; ROW]
     requires { all_below 32 (tuple_view tuple.now) ≡ true }
     ensures { take (length (tuple_view tuple.now)) result ≡ map (λ v. 2 ^ v) (tuple_view tuple.now) }
 {
