@@ -9,13 +9,11 @@ use lib.ListN.{length}
 use borrow.Author.Tests.{le-ltb}
 use Rattle.sets.specs.Lists.{all}
 use Rattle.sets.proofs.Lists.{all_i, all_at, ltb_lt, lt-ltb}
-use Rattle.sets.proofs.Tables.{length_table}
 use Rattle.klaim.specs.Invariant.{all_below}
 use Rattle.klaim.specs.Analysis.{Verdict, verdict}
 use Rattle.klaim.specs.Check.{written, check_read, check}
 use Rattle.klaim.specs.Reader.{gives, refused, World, read_both}
 use Rattle.klaim.proofs.Reader.{both_read}
-use Rattle.tables.specs.View.{row_at, rows_view}
 use Rattle.report.specs.Given.{Rooted}
 use Rattle.report.proofs.Ready.{rooted}
 use Rattle.verdict.specs.Verdict.{Judgeable}
@@ -37,18 +35,12 @@ module _ (w : Code.World) (S : WellFormed w) where
   unfolding world_view
   rooted_world = rooted w.net S.net
 
-  pub judgeable : length w.estimate.stand.bytes ≡ 1536 → Judgeable w.net w.estimate
-  unfolding world_view rows_view
-  judgeable s = record {
-    tuples_few = omega (arith, S.net.tuples_few, length_table w.net.tuples.count (row_at w.net.tuples.bytes));
+  pub judgeable : Judgeable w.net w.estimate
+  unfolding world_view
+  judgeable = record {
     tuples_low = fit_low _ _ S.net.sites_few S.net.tuples_fit;
     rooted = rooted w.net S.net;
-    sized = record {
-      few = omega (arith, S.estimate.stand_few, length_table w.estimate.stand.count (row_at w.estimate.stand.bytes));
-      long = s;
-      alone = S.estimate.stand_distinct;
-      low = fit_low _ _ S.net.sites_few S.estimate.stand_fit;
-    };
+    sized = record { alone = S.estimate.stand_distinct; low = fit_low _ _ S.net.sites_few S.estimate.stand_fit };
   }
 
 -- the answer and the buffer by the verdict

@@ -32,7 +32,7 @@ fn put_entry(out: &mut [u8], at: usize, table: &LetterTable, i: usize, rights: u
 }
 
 // The V rows of a report, in byte order, each of at most 16 bytes. One table of letters serves them all.
-fn put_rows_v(out: &mut [u8], at: usize, report: &[u8; 1024]) -> usize
+fn put_rows_v(out: &mut [u8], at: usize, report: &[u8; REPORT]) -> usize
     requires { (length report.now ≡ report_size) × (at + 16384 ≤ length out.old) }
     ensures { (result ≤ at + 16384) × Wrote out.old out.new at (rows_v report.now) result }
 {
@@ -57,8 +57,8 @@ fn put_line(out: &mut [u8], at: usize, s: u8, p: u32, q: u32) -> usize
 fn put_rows_u<'a>(
     out: &mut [u8],
     at: usize,
-    held: &'a [u32; 32],
-    used: &'a [u32; 32],
+    held: &'a [u32; SITES],
+    used: &'a [u32; SITES],
     n: u8,
 ) -> usize
     requires { Counts held.now used.now × (n ≤ site_limit) × (at + 19 * n ≤ length out.old) }
@@ -66,7 +66,8 @@ fn put_rows_u<'a>(
 {
     let mut next = at;
     for s in 0..n {
-        next = put_line(out, next, s, held[s as usize], used[s as usize]);
+        let i = usize::from(s);
+        next = put_line(out, next, s, held[i], used[i]);
     }
     next
 }
@@ -74,9 +75,9 @@ fn put_rows_u<'a>(
 // The listing of an accepted net: the rights reported, the V rows, the U rows.
 fn put_listing<'a>(
     out: &mut [u8],
-    report: &'a [u8; 1024],
-    held: &'a [u32; 32],
-    used: &'a [u32; 32],
+    report: &'a [u8; REPORT],
+    held: &'a [u32; SITES],
+    used: &'a [u32; SITES],
     n: u8,
 ) -> usize
     requires { (length report.now ≡ report_size) × Counts held.now used.now × (n ≤ site_limit) × (17006 ≤ length out.old) }
@@ -137,7 +138,7 @@ fn list_read(w: World, out: &mut [u8]) -> usize
 
 // The March listing: from the bytes of the input, a net, a row `.` and an estimate, to the bytes of the listing, which stand from
 // the first byte of the output on. Answers how many they are; 17,006 bytes hold every listing.
-pub fn list(input: &[u8], output: &mut [u8; 17006]) -> usize
+pub fn list(input: &[u8], output: &mut [u8; LISTING]) -> usize
     ensures wrote { Wrote output.old output.new 0 (listing_of input.now) result }
     ensures upper_bound { result ≤ 17006 }
 {

@@ -21,7 +21,7 @@ kept w buffer (BrokenTuple i) h = refl
 kept w buffer (BrokenLine q) h = refl
 
 pub judge-verdict-requires : goal.judge-verdict-requires
-judge-verdict-requires c = let stand : length c.args.w.estimate.stand.bytes ≡ 1536 = search rules in judgeable _ c.requires.well_formed stand
+judge-verdict-requires c = judgeable _ c.requires.well_formed
 
 pub report-requires : goal.report-requires
 report-requires c = rooted_world _ c.requires.well_formed

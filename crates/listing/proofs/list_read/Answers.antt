@@ -1,6 +1,4 @@
-use mathlib.Core.Path.{◌≡◌, ◌∙◌}
-use borrow.Author.Rules.{rules}
-use lib.ListN.{length}
+use mathlib.Core.Path.{◌∙◌}
 use Rattle.worlds.specs.World.{world_view}
 use Rattle.checker.proofs.Laws.{judgeable}
 use Rattle.verdict.specs.Verdict.{verdict_view}
@@ -10,7 +8,7 @@ use Rattle.rows.proofs.Rows.{broken_tuple_list, broken_line_list}
 use Rattle.listing.proofs.list_read.Goals as goal
 
 pub judge-requires : goal.judge-requires
-judge-requires c = let stand : length c.args.w.estimate.stand.bytes ≡ 1536 = search rules in judgeable _ c.requires.0 stand
+judge-requires c = judgeable _ c.requires.0
 
 pub returns-in-Accepted-clause-wrote : goal.returns-in-Accepted-clause-wrote
 unfolding verdict_view world_view

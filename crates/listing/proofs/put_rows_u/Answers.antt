@@ -13,11 +13,11 @@ pub put_line-next-requires : goal.put_line-next-requires
 put_line-next-requires c =
     let k = c.requires.0 in
     let h = wrote_long c.loop-s.invariant.1 in
-    (omega arith, k.used_most c.loop-s.s, k.held_most c.loop-s.s, omega arith)
+    rw c.from-i.ensures (omega arith, k.used_most c.loop-s.s, k.held_most c.loop-s.s, omega arith)
 
 pub loop-s-preserved : goal.loop-s-preserved
 loop-s-preserved c =
-    let e = c.put_line-next.ensures in
+    let e = rw c.from-i.ensures at c.put_line-next.ensures in
     let a = c.args in
     let k = c.requires.0 in
     let s = c.loop-s.s in
