@@ -5,6 +5,7 @@ ghost use Rattle.std.specs.Prelude.{◌≡◌, [], ◌∷◌, ◌+◌, ◌*◌, 
 ghost use Rattle.klaim.specs.Limits.{site_limit, report_size};
 ghost use Rattle.klaim.specs.Analysis.{accepted};
 ghost use Rattle.klaim.specs.Reader.{refused, gives};
+ghost use Rattle.klaim.specs.Refusals.{number_of};
 ghost use Rattle.klaim.specs.Listing.{numeral, row as word_row, rows_v, list_verdict, list_read, listing as listing_of};
 ghost use Rattle.worlds.specs.World.{world_view};
 ghost use Rattle.checker.specs.Check.{WellFormed};
@@ -12,6 +13,7 @@ ghost use Rattle.writer.specs.Wrote.{Wrote};
 ghost use Rattle.writer.specs.Letters.{letter_table};
 ghost use Rattle.listing.specs.Lines.{entry_v, line_u, lines_u, accepted_list, Counts};
 
+use klaim::{Reason, Refusal};
 use tables::{REPORT, SITES};
 use verdict::Verdict;
 use worlds::World;
@@ -106,12 +108,12 @@ fn list_accepted(w: World, out: &mut [u8]) -> usize
 }
 
 // The row of a refusal.
-fn put_refusal(out: &mut [u8], number: u8, row: usize) -> usize
-    requires { (row < 100000) × (17006 ≤ length out.old) }
-    ensures wrote { Wrote out.old out.new 0 (list_read (refused number row)) result }
+fn put_refusal(out: &mut [u8], refusal: Refusal) -> usize
+    requires { (refusal.row < 100000) × (17006 ≤ length out.old) }
+    ensures wrote { Wrote out.old out.new 0 (list_read (refused (number_of refusal.why) refusal.row)) result }
     ensures upper_bound { result ≤ 17006 }
 {
-    rows::put_refused(out, 0, number as u32, row as u32)
+    rows::put_refused(out, 0, u32::from(refusal.why.number()), refusal.row as u32)
 }
 
 // The row of a broken rule at a T row or a Q line.
@@ -143,12 +145,12 @@ pub fn list(input: &[u8], output: &mut [u8; LISTING]) -> usize
     ensures upper_bound { result ≤ 17006 }
 {
     if INPUT < input.len() {
-        return put_refusal(output, 2, 0);
+        return put_refusal(output, Refusal::from(Reason::Limit));
     }
     let n = parts::before(input);
     let from = parts::behind(input, n);
     match worlds::read_both(&input[..n], &input[from..]) {
         Ok(w) => list_read(w, output),
-        Err(refusal) => put_refusal(output, refusal.why.number(), refusal.row),
+        Err(refusal) => put_refusal(output, refusal),
     }
 }

@@ -51,11 +51,8 @@ fn root_threads(net: &Net) -> Threads
 {
     let mut threads = no_threads();
     for i in 0..net.roots.count {
-        threads::enter(
-            &mut threads,
-            &net.lines,
-            root_thread(net, net.roots.items[i]),
-        );
+        let thread = root_thread(net, net.roots.items[i]);
+        threads::enter(&mut threads, &net.lines, thread);
     }
     threads
 }

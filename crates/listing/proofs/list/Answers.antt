@@ -6,7 +6,7 @@ use Rattle.listing.proofs.Reading.{list_long, list_parts, row_low, part_net, par
 use Rattle.listing.proofs.list.Goals as goal
 
 pub returns-then-input-gt-INPUT-clause-wrote : goal.returns-then-input-gt-INPUT-clause-wrote
-returns-then-input-gt-INPUT-clause-wrote c = wrote_as (list_long _ c.if-input-gt-INPUT.true) c.put_refusal.ensures.wrote
+returns-then-input-gt-INPUT-clause-wrote c = wrote_as (list_long _ c.if-input-gt-INPUT.true) (rw c.from.ensures at c.put_refusal.ensures.wrote)
 
 pub slice_bounds-read_both-end : goal.slice_bounds-read_both-end
 slice_bounds-read_both-end c = front_long _ _ c.before-n.ensures
@@ -21,4 +21,4 @@ pub put_refusal-requires-in-Err : goal.put_refusal-requires-in-Err
 put_refusal-requires-in-Err c = (row_low c.args.input.now _ _ _ c.in-Err.refusal.row c.if-input-gt-INPUT.false (take_short c.before-n.result c.args.input.now) (behind_short c.behind-from.result c.args.input.now) c.in-Err.ensures, search rules)
 
 pub returns-in-Err-clause-wrote : goal.returns-in-Err-clause-wrote
-returns-in-Err-clause-wrote c = wrote_as (list_parts c.args.input.now c.if-input-gt-INPUT.false c.in-Err.ensures (part_net _ _ c.before-n.ensures) (part_estimate _ _ c.behind-from.ensures.1)) (rw c.number.ensures at c.put_refusal-in-Err.ensures.wrote)
+returns-in-Err-clause-wrote c = wrote_as (list_parts c.args.input.now c.if-input-gt-INPUT.false c.in-Err.ensures (part_net _ _ c.before-n.ensures) (part_estimate _ _ c.behind-from.ensures.1)) c.put_refusal-in-Err.ensures.wrote

@@ -8,10 +8,15 @@ pub overflow_cast-row : goal.overflow_cast-row
 overflow_cast-row c = omega (arith, c.requires.0)
 
 pub put_refused-requires : goal.put_refused-requires
-put_refused-requires c = omega (arith, refused_fits c.args.number c.args.row (omega (arith, c.ranges)) c.requires.0, c.requires.1)
+put_refused-requires c = rw c.from.ensures (omega (arith, refused_fits c.number.result c.args.refusal.row (omega (arith, c.number.type_inv)) c.requires.0, c.requires.1))
 
 pub shape_of-out : goal.shape_of-out
 shape_of-out c = wrote_long c.put_refused.ensures
 
 pub returns : goal.returns
-returns c = record { wrote = wrote_as (refused_list _ _) c.put_refused.ensures; upper_bound = fits_in c.put_refused.ensures (refused_fits _ _ (omega (arith, c.ranges)) c.requires.0) }
+returns c =
+    let w = rw c.from.ensures at c.put_refused.ensures in
+    record {
+      wrote = wrote_as (refused_list _ _) (rw c.number.ensures at w);
+      upper_bound = fits_in w (refused_fits _ _ (omega (arith, c.number.type_inv)) c.requires.0);
+    }
