@@ -122,7 +122,7 @@ fn put_break(out: &mut [u8], kind: u8, number: u8) -> usize
     ensures wrote { Wrote out.old out.new 0 (word_row "broken" ((kind ∷ []) ∷ numeral number ∷ [])) result }
     ensures upper_bound { result ≤ 17006 }
 {
-    rows::put_broken(out, 0, kind, number as u32)
+    rows::put_broken(out, 0, kind, u32::from(number))
 }
 
 // The listing of a net that was read.

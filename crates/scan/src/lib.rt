@@ -130,6 +130,7 @@ pub fn read<R: Reader>(reader: &mut R, s: &[u8]) -> Result<(), Refusal>
 {
     let mut at = 0;
     let mut count = 0;
+    // By hand: each row says where the next one begins.
     while at < s.len() {
         let next = row_at(s, at);
         count += 1;

@@ -315,7 +315,8 @@ pub fn box_rights(f: &[u8]) -> Option<u8>
     rights(f)
 }
 
-// Stands for no rights in the table of the sandboxes, where 0 is the empty set; greater than every set.
+// Stands for no rights in the table of the sandboxes, where 0 is the empty set; greater than every set. No option: the definition of
+// that table puts the numbers of rows over numbers.
 pub const UNSAID: u8 = 128;
 
 // What may stand as a field of a tuple or a template, read off its bytes.
