@@ -16,10 +16,10 @@ use Rattle.klaim.specs.Net.{Net, Estimate}
 use Rattle.klaim.specs.Analysis.{reach, broken, lesser, least}
 use Rattle.tables.specs.declared.Action.{Action}
 use Rattle.tables.specs.declared.Action.TheVariants.{Nil, Par, Rep, Out, In, Read, Eval, Accept}
-use Rattle.tables.specs.View.{Lines, action_line, lines_of, ActionAt, InForm}
+use Rattle.tables.specs.View.{Lines, action_line, line_of, lines_of, ActionAt, InForm}
 use Rattle.tables.proofs.LineTable.{tree_at, Child, next}
 use Rattle.broken.specs.Lesser.{lesser_of}
-use Rattle.broken.specs.Own.{own_rule}
+use Rattle.rules.specs.Own.{own_rule}
 
 -- of three, the lesser of the first two and the third
 lesser_turn : (x : ℕ) (a b : Option ℕ) → lesser x (lesser_of a b) ≡ lesser (lesser x a) b
@@ -73,13 +73,13 @@ module _ (N : Net) (E : Estimate) (P : ℕ) {t : Lines} {q : ℕ} (w : InForm t 
   broken_at = broken_own N E P (tree (lines_of t)) q x ∙ ap (broken N E P) (sym (tree_at w d refl))
 
   -- the least broken line: its own, if its rule fails, or one behind it
-  pub found_at : {r rest : Option ℕ} {ok : Bool} → r ≡ cond ok rest (lesser_of (some q) rest) → ok ≡ holds x → rest ≡ least (rest_of x)
+  pub found_at : {r rest : Option ℕ} {ok : Bool} → r ≡ cond ok rest (lesser_of (some q) rest) → ok ≡ own_rule N E P (line_of t q) → rest ≡ least (rest_of x)
       → r ≡ least (broken N E P (tree (lines_of t) q))
-  found_at z o h = z ∙ rw (o, h) (sym (least_here (holds x) q (rest_of x))) ∙ ap least broken_at
+  found_at z o h = z ∙ rw (o ∙ sym (ap (own_rule N E P) d.line), h) (sym (least_here (holds x) q (rest_of x))) ∙ ap least broken_at
 
   -- where the line has no rule
   pub free_at : {y : Action} → x ≡ y → true ≡ holds y → {r : Option ℕ} → r ≡ least (rest_of y) → r ≡ least (broken N E P (tree (lines_of t) q))
-  free_at e o h = found_at {ok = true} refl (o ∙ sym (ap holds e)) (h ∙ sym (ap (λ (y : Action). least (rest_of y)) e))
+  free_at e o h = found_at {ok = true} refl (o ∙ sym (ap holds e) ∙ ap (own_rule N E P) d.line) (h ∙ sym (ap (λ (y : Action). least (rest_of y)) e))
 
   -- a line that one line follows
   abbrev pub One : ℕ → Type 0

@@ -6,10 +6,8 @@ ghost use Rattle.std.proofs.Math.Option.{some};
 ghost use Rattle.sets.specs.Options.{option_of};
 ghost use Rattle.klaim.specs.Process.{tree};
 ghost use Rattle.klaim.specs.Analysis.{broken, least};
-ghost use Rattle.tables.specs.Low.{LowAction};
-ghost use Rattle.tables.specs.View.{action_line, lines_of, net_view, estimate_view, InForm};
+ghost use Rattle.tables.specs.View.{lines_of, net_view, estimate_view, InForm};
 ghost use Rattle.rules.specs.Masks.{IndexOf};
-ghost use Rattle.broken.specs.Own.{own_rule};
 ghost use Rattle.broken.specs.Lesser.{lesser_of};
 
 use matching::RowIndex;
@@ -37,31 +35,6 @@ fn or_here(ok: bool, q: u8, rest: Option<u8>) -> Option<u8>
     lesser(Some(q), rest)
 }
 
-// Whether the rule of the line itself holds, `places` being its place set. Only lines that act have one.
-#[tactic(auto, unfolding(crate::specs::Own::own_rule, tables::specs::View::action_line))]
-fn own_rule(action: &Action, net: &Net, estimate: &Estimate, index: &RowIndex, places: u32) -> bool
-    requires { LowAction action.now }
-    ensures { IndexOf (estimate_view estimate.now) index.now.sets → result ≡ own_rule (net_view net.now) (estimate_view estimate.now) places (action_line action.now) }
-{
-    match action {
-        Action::Out { target, fields, .. } => {
-            rules::out_rule(fields, *target, places, estimate, index)
-        }
-        Action::In { target, fields, .. } | Action::Read { target, fields, .. } => {
-            rules::get_rule(fields, *target, places, estimate, index)
-        }
-        Action::Eval {
-            target,
-            sandbox,
-            ..
-        } => {
-            let set = flow::reach(*target, places, estimate);
-            rules::eval_rule(net, estimate, set, *sandbox)
-        }
-        Action::Nil | Action::Par { .. } | Action::Rep { .. } | Action::Accept { .. } => true,
-    }
-}
-
 // The least line of the process of line q whose rule is broken, `places` being its place set.
 // An eval body is judged with the reach of the target for its place set. 256 less q falls.
 pub fn first_broken(
@@ -75,9 +48,8 @@ pub fn first_broken(
     requires { InForm lines.now q }
     ensures { IndexOf (estimate_view estimate.now) index.now.sets → option_of (λ q. q) result ≡ least (broken (net_view net.now) (estimate_view estimate.now) places (tree (lines_of lines.now) q)) }
 {
-    let action = lines.action(q);
-    let ok = own_rule(&action, net, estimate, index, places);
-    match action {
+    let ok = rules::own_rule(net, estimate, index, lines, places, q);
+    match lines.action(q) {
         Action::Nil => None,
         Action::Par { next, second } => {
             let a = first_broken(net, estimate, index, lines, places, next);

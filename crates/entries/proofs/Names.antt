@@ -27,7 +27,7 @@ use Rattle.tables.specs.declared.Action.{Action}
 use Rattle.tables.specs.declared.Action.TheVariants as Actions
 use Rattle.tables.specs.Low.{low_loc, low_slot, low_action}
 use Rattle.tables.specs.View.{action_line}
-use Rattle.entries.specs.Entries.{cut_loc, cut_slot}
+use Rattle.entries.specs.Entries.{cut_loc, cut_slot, cut_line}
 
 -- numbers of names within their limit
 abbrev pub Low : List ℕ → Type 0
@@ -103,17 +103,6 @@ line_low p h =
     let W = within (process_data p) h in
     let v = sym (all_cat _ (concat used_in (slots_of l)) (concat bound_in (slots_of l))) ∙ W.vars_low in
     record { boxes = W.boxes_low; names = slots_low (slots_of l) W.sites_low (and_l _ _ v) (and_r _ _ v); lines = low_rest 256 p.number _ W.lines_low }
-
--- a line whose numbers became bytes
-abbrev pub cut_line : Line → Line
-cut_line Nil = Nil
-cut_line (Par a b) = Par (a % 256) (b % 256)
-cut_line (Rep a) = Rep (a % 256)
-cut_line (Out a g fs) = Out (a % 256) (cut_loc g) (map cut_loc fs)
-cut_line (In a g fs) = In (a % 256) (cut_loc g) (map cut_slot fs)
-cut_line (Read a g fs) = Read (a % 256) (cut_loc g) (map cut_slot fs)
-cut_line (Eval a g b k) = Eval (a % 256) (cut_loc g) (b % 256) (k % 256)
-cut_line (Accept a k) = Accept (a % 256) (k % 256)
 
 byte : (n : ℕ) → n < 256 → n % 256 ≡ n
 byte n h = omega arith

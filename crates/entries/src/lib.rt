@@ -3,16 +3,17 @@
 
 ghost use Rattle.std.specs.Prelude.{◌≡◌, true, ◌%◌, ◌<◌, ltb};
 ghost use Rattle.sets.specs.Lists.{all};
+ghost use Rattle.klaim.specs.Process.{Out};
 ghost use Rattle.klaim.specs.Reader.{in_limits, root_of};
 ghost use Rattle.text.specs.Fields.{loc, slot};
-ghost use Rattle.lines.specs.Lines.{line_view};
+ghost use Rattle.lines.specs.Lines.{acts_of, line_view};
 ghost use Rattle.forms.specs.Forms.{process_data, root_data, sites_of};
 ghost use Rattle.tables.specs.View.{action_line, tuple_view, root_view};
-ghost use Rattle.entries.specs.Entries.{cut_loc, cut_slot};
+ghost use Rattle.entries.specs.Entries.{cut_loc, cut_slot, cut_line};
 
 use forms::Process;
 use klaim::{Fields, Loc, Site, Slot, Var};
-use lines::Line;
+use lines::{Acts, Line};
 use tables::{Action, Root, Tuple};
 use text::{Field, SiteName, Target};
 
@@ -69,28 +70,30 @@ fn slot(field: Field) -> Slot
     }
 }
 
+// What a line of `out` does.
+fn put(acts: &Acts<Target>) -> Action
+    ensures { action_line result ≡ cut_line (acts_of loc Out acts.now) }
+{
+    Action::Out {
+        next: byte(acts.next),
+        target: loc(acts.target),
+        fields: acts.fields.map(loc),
+    }
+}
+
 // What the line of a Q row does.
 #[tactic(auto, unfolding(lines::specs::Lines::line_view, tables::specs::View::action_line))]
-fn action(process: &Process) -> Action
-    requires { in_limits (process_data process.now) ≡ true }
-    ensures { action_line result ≡ line_view process.now.line }
+fn action(line: &Line) -> Action
+    ensures { action_line result ≡ cut_line (line_view line.now) }
 {
-    match &process.line {
+    match line {
         Line::Nil => Action::Nil,
         Line::Par { next, second } => Action::Par {
             next: byte(*next),
             second: byte(*second),
         },
         Line::Rep { next } => Action::Rep { next: byte(*next) },
-        Line::Out {
-            next,
-            target,
-            fields,
-        } => Action::Out {
-            next: byte(*next),
-            target: loc(*target),
-            fields: fields.map(loc),
-        },
+        Line::Out(acts) => put(acts),
         Line::In(get) => Action::In {
             next: byte(get.next),
             target: loc(get.target),
@@ -125,7 +128,7 @@ pub fn line(process: &Process) -> tables::Line
     ensures { action_line result.action ≡ line_view process.now.line }
 {
     tables::Line {
-        action: action(process),
+        action: action(&process.line),
     }
 }
 

@@ -28,18 +28,18 @@ unfolding boxes_of line_view acts_of
 no_box Nil e a = refl
 no_box (Par n m) e a = refl
 no_box (Rep n) e a = refl
-no_box (Out n g fs) e a = refl
+no_box (Out x) e a = refl
 no_box (In g) e a = refl
 no_box (Read g) e a = refl
 no_box (Eval n g b k) e a = absurd (e n g b k refl)
 no_box (Accept n k) e a = absurd (a n k refl)
 
-pub no_slots : (l : Line) → ((a : ℕ) (g : Target) (fs : Fields Target) → l ≡ Out a g fs → ⊥) → ((g : Acts Field) → l ≡ In g → ⊥) → ((g : Acts Field) → l ≡ Read g → ⊥) → ((a : ℕ) (g : Target) (b k : ℕ) → l ≡ Eval a g b k → ⊥) → slots_of (line_view l) ≡ []
+pub no_slots : (l : Line) → ((g : Acts Target) → l ≡ Out g → ⊥) → ((g : Acts Field) → l ≡ In g → ⊥) → ((g : Acts Field) → l ≡ Read g → ⊥) → ((a : ℕ) (g : Target) (b k : ℕ) → l ≡ Eval a g b k → ⊥) → slots_of (line_view l) ≡ []
 unfolding slots_of line_view acts_of
 no_slots Nil o i r e = refl
 no_slots (Par n m) o i r e = refl
 no_slots (Rep n) o i r e = refl
-no_slots (Out n g fs) o i r e = absurd (o n g fs refl)
+no_slots (Out g) o i r e = absurd (o g refl)
 no_slots (In g) o i r e = absurd (i g refl)
 no_slots (Read g) o i r e = absurd (r g refl)
 no_slots (Eval n g b k) o i r e = absurd (e n g b k refl)
@@ -71,9 +71,9 @@ module _ (p : ℕ → Bool) where
         ∙ rw (all_map (λ s. all p (used_in s ⧺ bound_in s)) view xs, all_concat p variables xs) (ap (λ (f : T → Bool). all p (used_in (Value (loc g)) ⧺ []) & all f xs) (fun_ext (λ x. ap (all p) (sym (h x)))))
 
 -- the slots of `out`
-pub out_slots : (a : ℕ) (g : Target) (fs : Fields Target) → slots_of (line_view (Out a g fs)) ≡ Value (loc g) ∷ map (λ t. Value (loc t)) (items fs)
-unfolding slots_of line_view
-out_slots a g fs = ap (λ ss. Value (loc g) ∷ ss) (twice (items fs))
+pub out_slots : (x : Acts Target) → slots_of (line_view (Out x)) ≡ Value (loc x.target) ∷ map (λ t. Value (loc t)) (items x.fields)
+unfolding slots_of line_view acts_of
+out_slots x = ap (λ ss. Value (loc x.target) ∷ ss) (twice (items x.fields))
   where
     twice : (ts : List Target) → map Value (map loc ts) ≡ map (λ t. Value (loc t)) ts
     twice [] = refl

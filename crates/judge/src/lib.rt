@@ -120,7 +120,7 @@ fn low_variables(line: &Line) -> bool
     ensures { result ≡ all (λ u. ltb u var_limit) (concat used_in (slots_of (line_view line.now)) ⧺ concat bound_in (slots_of (line_view line.now))) }
 {
     match line {
-        Line::Out { target, fields, .. } => target.low_variable() && low_variables_of(fields),
+        Line::Out(put) => put.target.low_variable() && low_variables_of(&put.fields),
         Line::In(get) | Line::Read(get) => {
             get.target.low_variable() && low_variables_of(&get.fields)
         }
@@ -133,7 +133,7 @@ fn low_line(line: &Line, n: u16) -> bool
     ensures { result ≡ all (λ s. ltb s n) (concat sites_in (slots_of (line_view line.now))) }
 {
     match line {
-        Line::Out { target, fields, .. } => target.low_site(n) && low_sites_of(fields, n),
+        Line::Out(put) => put.target.low_site(n) && low_sites_of(&put.fields, n),
         Line::In(get) | Line::Read(get) => get.target.low_site(n) && low_sites_of(&get.fields, n),
         Line::Eval { target, .. } => target.low_site(n),
         _ => true,
@@ -147,8 +147,9 @@ fn low_children(line: &Line) -> bool
         Line::Nil => true,
         Line::Par { next, second } => *next < LINES && *second < LINES,
         Line::Eval { next, body, .. } => *next < LINES && *body < LINES,
+        Line::Out(put) => put.next < LINES,
         Line::In(get) | Line::Read(get) => get.next < LINES,
-        Line::Rep { next } | Line::Out { next, .. } | Line::Accept { next, .. } => *next < LINES,
+        Line::Rep { next } | Line::Accept { next, .. } => *next < LINES,
     }
 }
 

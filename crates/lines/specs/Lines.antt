@@ -24,7 +24,7 @@ unfoldable pub line_view : Line → Spec.Line
 line_view Nil = Spec.Nil
 line_view (Par a b) = Spec.Par a b
 line_view (Rep a) = Spec.Rep a
-line_view (Out a g fs) = Spec.Out a (loc g) (map loc (items fs))
+line_view (Out x) = acts_of loc Spec.Out x
 line_view (In x) = acts_of slot Spec.In x
 line_view (Read x) = acts_of slot Spec.Read x
 line_view (Eval a g b k) = Spec.Eval a (loc g) b k

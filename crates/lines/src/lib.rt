@@ -52,11 +52,7 @@ pub enum Line {
     Rep {
         next: u16,
     },
-    Out {
-        next: u16,
-        target: Target,
-        fields: Fields<Target>,
-    },
+    Out(Acts<Target>),
     In(Acts<Field>),
     Read(Acts<Field>),
     Eval {
@@ -126,11 +122,7 @@ fn read_out(row: &CutRow) -> Option<Line>
     ensures { option_of line_view result ≡ line_out (drop 2 (split comma row.now.bytes.now)) }
 {
     let acts = read_acts(row)?;
-    Some(Line::Out {
-        next: acts.next,
-        target: acts.target,
-        fields: acts.fields,
-    })
+    Some(Line::Out(acts))
 }
 
 fn read_eval(row: &CutRow) -> Option<Line>

@@ -24,7 +24,8 @@ use Rattle.threads.proofs.Laws.{thread_some}
 use Rattle.state.specs.declared.State.{State}
 use Rattle.state.specs.View.{no_arrival, arrival_root, arrivals_of, state_view}
 use Rattle.state.specs.Fits.{sound_at, Fits}
-use Rattle.plan.specs.Move.{Plannable}
+use Rattle.state.proofs.Few.{sites_few}
+use Rattle.plan.specs.Move.{Admits, SoundAt, Plannable}
 use Rattle.plan.proofs.Laws.{fits_sound, not_sound}
 
 module _ {st : State} (f : Fits st) where
@@ -33,21 +34,12 @@ module _ {st : State} (f : Fits st) where
   unfolding state_view arrivals_of
   root_present i h = omega (arith, (All-in f.invariant.arrivals_ok (table_in st.arrivals.count (arrival_root st.arrivals) i h)).present, lines_long st.lines)
 
-  pub root_form : (i : ℕ) → i < st.arrivals.count → InForm st.lines (arrival_root st.arrivals i)
+  pub admits : Admits st
   unfolding state_view
-  root_form i h = record { in_order = f.invariant.lines_ordered; present = root_present i h }
+  admits = record { in_order = f.invariant.lines_ordered; roots_present = root_present }
 
-  -- the tests of the door, as the code makes them
-  module _ (i l d : ℕ) (h : i < st.arrivals.count) (k : l < st.net.size) {m : Bool} (e : m ≡ mem l (get_or st.arrivals.items i no_arrival).sound) where
-    pub arrival_sound : m ≡ true → {p : Bool} → p ≡ uses_fit (state_view st).net (state_view st).estimate d l (tree (state_view st).lines (arrival_root st.arrivals i)) → p ≡ door (state_view st).net (state_view st).estimate d l (tree (state_view st).lines (arrival_root st.arrivals i))
-    unfolding sound_at
-    arrival_sound t u =
-        u ∙ fits_sound _ _ (sym (f.sound_is i l h k) ∙ sym e ∙ t) ∙ door_parts (state_view st).net (state_view st).estimate d l (tree (state_view st).lines (arrival_root st.arrivals i))
-
-    pub arrival_unsound : m ≡ false → false ≡ door (state_view st).net (state_view st).estimate d l (tree (state_view st).lines (arrival_root st.arrivals i))
-    unfolding sound_at
-    arrival_unsound t =
-        not_sound _ _ (sym (f.sound_is i l h k) ∙ sym e ∙ t) ∙ door_parts (state_view st).net (state_view st).estimate d l (tree (state_view st).lines (arrival_root st.arrivals i))
+  pub sound_here : (l : ℕ) → l < st.net.size → SoundAt st l
+  sound_here l k i h = f.sound_is i l h k
 
   -- thread k can act
   module _ (k : ℕ) (h : k < st.threads.count) where
@@ -60,7 +52,26 @@ module _ {st : State} (f : Fits st) where
     thread_ok = All-get k f.invariant.threads_ok thread_here
 
     pub plannable : Plannable st (get_or st.threads.items k no_thread)
-    plannable = record { fits = f; present = omega (arith, thread_ok.present, lines_long st.lines); placed = thread_ok.placed }
+    plannable = record { admits = admits; present = omega (arith, thread_ok.present, lines_long st.lines); placed = omega (arith, thread_ok.placed, sites_few f) }
+
+    pub thread_sound : SoundAt st (get_or st.threads.items k no_thread).site.0
+    thread_sound = sound_here _ thread_ok.placed
+
+-- the root of an arrival, as a line
+pub root_form : {st : State} → Admits st → (i : ℕ) → i < st.arrivals.count → InForm st.lines (arrival_root st.arrivals i)
+root_form a i h = record { in_order = a.in_order; present = a.roots_present i h }
+
+-- the tests of the door, as the code makes them
+module _ (st : State) (l d : ℕ) (s : SoundAt st l) (i : ℕ) (h : i < st.arrivals.count) {m : Bool} (e : m ≡ mem l (get_or st.arrivals.items i no_arrival).sound) where
+  pub arrival_sound : m ≡ true → {p : Bool} → p ≡ uses_fit (state_view st).net (state_view st).estimate d l (tree (state_view st).lines (arrival_root st.arrivals i)) → p ≡ door (state_view st).net (state_view st).estimate d l (tree (state_view st).lines (arrival_root st.arrivals i))
+  unfolding sound_at
+  arrival_sound t u =
+      u ∙ fits_sound _ _ (sym (s i h) ∙ sym e ∙ t) ∙ door_parts (state_view st).net (state_view st).estimate d l (tree (state_view st).lines (arrival_root st.arrivals i))
+
+  pub arrival_unsound : m ≡ false → false ≡ door (state_view st).net (state_view st).estimate d l (tree (state_view st).lines (arrival_root st.arrivals i))
+  unfolding sound_at
+  arrival_unsound t =
+      not_sound _ _ (sym (s i h) ∙ sym e ∙ t) ∙ door_parts (state_view st).net (state_view st).estimate d l (tree (state_view st).lines (arrival_root st.arrivals i))
 
 -- the line that a thread stands on, from its action; and the plan for that line, from that for the action
 module _ {st : State} {th : Thread} (p : Plannable st th) {r : Action} (d : ActionAt st.lines th.line r) {x : Action} (e : r ≡ x) where

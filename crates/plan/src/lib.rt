@@ -13,8 +13,7 @@ ghost use Rattle.klaim.specs.Engine.{plan as plan_of, act, after, value, bind_al
 ghost use Rattle.tables.specs.View.{tuple_view};
 ghost use Rattle.threads.specs.View.{thread_view, rebound};
 ghost use Rattle.state.specs.View.{arrival_root, state_view};
-ghost use Rattle.state.specs.Fits.{Fits};
-ghost use Rattle.plan.specs.Move.{plan_view, move_view, Plannable, Possible, Placed};
+ghost use Rattle.plan.specs.Move.{plan_view, move_view, Admits, SoundAt, Plannable, Possible, Placed};
 
 use flow::UseMap;
 use klaim::{Fields, Loc, Reason, Slot};
@@ -22,11 +21,11 @@ use state::{Arrivals, State};
 use tables::{Action, Tuple, VARIABLES};
 use threads::Thread;
 
-// What a step uses: nothing, or a right on a target.
+// What a step uses that is not silent: a right on a target.
 #[derive(Clone, Copy)]
-pub enum Use {
-    Nothing,
-    Right { target: u8, right: u8 },
+pub struct Use {
+    pub target: u8,
+    pub right: u8,
 }
 
 // What becomes of the tuples: they are kept, one is appended, or the named one is taken out.
@@ -40,7 +39,7 @@ pub enum Change {
 // What a step comes to that is not refused: what it uses, the thread behind it, one more thread, and the tuples.
 #[derive(Clone, Copy)]
 pub struct Move {
-    pub uses: Use,
+    pub uses: Option<Use>,
     pub thread: Thread,
     pub added: Option<Thread>,
     pub change: Change,
@@ -53,7 +52,7 @@ fn plan_par(th: Thread, a: u8, b: u8) -> Move
     ensures possible { (m n : ℕ) → Possible m n result }
 {
     Move {
-        uses: Use::Nothing,
+        uses: None,
         thread: th.to(a),
         added: Some(th.to(b)),
         change: Change::Kept,
@@ -67,7 +66,7 @@ fn plan_rep(th: Thread, a: u8) -> Move
     ensures possible { (m n : ℕ) → Possible m n result }
 {
     Move {
-        uses: Use::Nothing,
+        uses: None,
         thread: th,
         added: Some(th.to(a)),
         change: Change::Kept,
@@ -81,10 +80,10 @@ fn plan_out(th: Thread, a: u8, target: Loc, fields: &Fields<Loc>) -> Move
     ensures possible { (m n : ℕ) → Possible m n result }
 {
     Move {
-        uses: Use::Right {
+        uses: Some(Use {
             target: th.value(target),
             right: UseMap::OUT,
-        },
+        }),
         thread: th.to(a),
         added: None,
         change: Change::Appended(tuples::made(&th, target, fields)),
@@ -100,10 +99,10 @@ fn plan_eval(state: &State, th: Thread, a: u8, target: Loc, b: u8, d: u8) -> Mov
 {
     let l = th.value(target);
     Move {
-        uses: Use::Right {
+        uses: Some(Use {
             target: l,
             right: UseMap::EVAL,
-        },
+        }),
         thread: th.to(a),
         added: Some(Thread::under(&state.net, d, l, b, th.bindings)),
         change: Change::Kept,
@@ -124,10 +123,10 @@ fn plan_taken(
 {
     let bound = tuples::bind_all(th, fields, tuple);
     Move {
-        uses: Use::Right {
+        uses: Some(Use {
             target: th.value(target),
             right: if taken { UseMap::IN } else { UseMap::READ },
-        },
+        }),
         thread: bound.to(a),
         added: None,
         change: if taken { Change::Taken } else { Change::Kept },
@@ -168,8 +167,8 @@ pub fn arrival_at(arrivals: &Arrivals, r: usize) -> Option<usize>
 
 // The door for arrival i at site l under sandbox d: it is sound there, and its use map lies within d evaluated at l.
 pub fn admitted(state: &State, i: usize, l: u8, d: u8) -> bool
-    requires { Fits state.now × (i < state.now.arrivals.count) × (l < state.now.net.size) × (d < 32) }
-    ensures { result ≡ door_of (state_view state.now).net (state_view state.now).estimate d l (tree (state_view state.now).lines (arrival_root state.now.arrivals i)) }
+    requires { Admits state.now × (i < state.now.arrivals.count) × (l < 32) × (d < 32) }
+    ensures { SoundAt state.now l → result ≡ door_of (state_view state.now).net (state_view state.now).estimate d l (tree (state_view state.now).lines (arrival_root state.now.arrivals i)) }
 {
     let arrival = state.arrivals.items[i];
     if sets::has_site(arrival.sound, l) {
@@ -195,10 +194,10 @@ fn plan_guest(state: &State, th: Thread, a: u8, d: u8, q: u8) -> Move
     let l = th.site.0;
     let guest = Thread::under(&state.net, d, l, q, [None; VARIABLES]);
     Move {
-        uses: Use::Right {
+        uses: Some(Use {
             target: l,
             right: UseMap::ACCEPT,
-        },
+        }),
         thread: th.to(a),
         added: Some(guest),
         change: Change::Kept,
@@ -207,8 +206,8 @@ fn plan_guest(state: &State, th: Thread, a: u8, d: u8, q: u8) -> Move
 
 // accept: r is an arrival's root and the door passes it.
 fn plan_accept(state: &State, th: Thread, a: u8, d: u8, r: usize) -> Result<Move, Reason>
-    requires { Fits state.now × (th.site.0 < state.now.net.size) × (d < 32) }
-    ensures value { (k m : ℕ) → plan_view (state_view state.now) k m result ≡ plan_of (state_view state.now) k (thread_view th) m r (Process.Accept a d) }
+    requires { Admits state.now × (th.site.0 < 32) × (d < 32) }
+    ensures value { SoundAt state.now th.site.0 → (k m : ℕ) → plan_view (state_view state.now) k m result ≡ plan_of (state_view state.now) k (thread_view th) m r (Process.Accept a d) }
     ensures possible { (m n : ℕ) → IfOk result (Possible m n) }
 {
     let Some(i) = arrival_at(&state.arrivals, r) else {
@@ -223,7 +222,7 @@ fn plan_accept(state: &State, th: Thread, a: u8, d: u8, r: usize) -> Result<Move
 // What a step of thread th comes to: m names a tuple, r an arrival's root.
 pub fn plan(state: &State, th: Thread, m: usize, r: usize) -> Result<Move, Reason>
     requires { Plannable state.now th }
-    ensures value { (k : ℕ) → plan_view (state_view state.now) k m result ≡ plan_of (state_view state.now) k (thread_view th) m r (line_at (state_view state.now).lines th.line) }
+    ensures value { SoundAt state.now th.site.0 → (k : ℕ) → plan_view (state_view state.now) k m result ≡ plan_of (state_view state.now) k (thread_view th) m r (line_at (state_view state.now).lines th.line) }
     ensures possible { IfOk result (Possible m state.now.tuples.count) }
 {
     match state.lines.action(th.line) {

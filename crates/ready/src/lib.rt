@@ -12,7 +12,7 @@ ghost use Rattle.klaim.specs.Engine.{agrees as agrees_of, door_alone, ready as r
 ghost use Rattle.tables.specs.Entries.{entries};
 ghost use Rattle.tables.specs.View.{lines_of};
 ghost use Rattle.threads.specs.View.{thread_view};
-ghost use Rattle.plan.specs.Move.{Plannable};
+ghost use Rattle.plan.specs.Move.{Admits, SoundAt, Plannable};
 ghost use Rattle.state.specs.View.{arrival_root, state_view};
 ghost use Rattle.state.specs.Fits.{Fits};
 ghost use Rattle.ready.specs.Runs.{standing, room as room_of, welcome, runs as runs_of};
@@ -51,7 +51,7 @@ fn some_agrees(state: &State, th: &Thread, target: Loc, fields: &Fields<Slot>) -
 
 // Whether arrival i passes the door at the thread's site under sandbox d, and there is room for it where the thread comes to line a.
 fn welcomes(state: &State, th: &Thread, a: u8, d: u8, i: usize) -> bool
-    requires { Fits state.now × (i < state.now.arrivals.count) × (th.now.site.0 < state.now.net.size) × (d < 32) }
+    requires { Admits state.now × SoundAt state.now th.now.site.0 × (i < state.now.arrivals.count) × (th.now.site.0 < 32) × (d < 32) }
     ensures { result ≡ welcome (state_view state.now) (thread_view th.now) a d (arrival_root state.now.arrivals i) }
 {
     if has_room(state, a, state.arrivals.items[i].root) {
@@ -62,7 +62,7 @@ fn welcomes(state: &State, th: &Thread, a: u8, d: u8, i: usize) -> bool
 
 // Whether one of the arrivals does.
 fn some_guest(state: &State, th: &Thread, a: u8, d: u8) -> bool
-    requires { Fits state.now × (th.now.site.0 < state.now.net.size) × (d < 32) }
+    requires { Admits state.now × SoundAt state.now th.now.site.0 × (th.now.site.0 < 32) × (d < 32) }
     ensures { result ≡ any (welcome (state_view state.now) (thread_view th.now) a d) (state_view state.now).arrivals }
 {
     (0..state.arrivals.count).any(|i| welcomes(state, th, a, d, i))
@@ -70,7 +70,7 @@ fn some_guest(state: &State, th: &Thread, a: u8, d: u8) -> bool
 
 // Whether thread th can make a bare step.
 fn can_step(state: &State, th: &Thread) -> bool
-    requires { Plannable state.now th.now }
+    requires { Plannable state.now th.now × SoundAt state.now th.now.site.0 }
     ensures { result ≡ runs_of (state_view state.now) (thread_view th.now) (line_at (state_view state.now).lines th.now.line) }
 {
     match state.lines.action(th.line) {

@@ -8,14 +8,15 @@ ghost use Rattle.klaim.specs.Fields.{items};
 ghost use Rattle.klaim.specs.declared.Loc.{Loc as LocT};
 ghost use Rattle.klaim.specs.Net.{holds};
 ghost use Rattle.klaim.specs.Analysis.{reach as reach_of, out_rule, get_rule, eval_rule};
-ghost use Rattle.tables.specs.Low.{LowLoc, LowSlot};
-ghost use Rattle.tables.specs.View.{net_view, estimate_view};
+ghost use Rattle.tables.specs.Low.{LowLoc, LowSlot, LowAction};
+ghost use Rattle.tables.specs.View.{action_line, line_of, net_view, estimate_view};
 ghost use Rattle.rules.specs.Masks.{wanted as wanted_of, allowed as allowed_of, IndexOf};
+ghost use Rattle.rules.specs.Own.{own_rule};
 
 use flow::UseMap;
 use klaim::{Fields, Loc, Slot};
 use matching::{ANY, RowIndex};
-use tables::{Estimate, Net};
+use tables::{Action, Estimate, Lines, Net};
 
 // What a field of a template agrees with: a value's reach, `!u` and `_` any site.
 #[tactic(auto, unfolding(crate::specs::Masks::wanted))]
@@ -42,7 +43,7 @@ fn allowed(slot: Slot, estimate: &Estimate) -> u32
 }
 
 // The rule of an out line.
-pub fn out_rule(
+fn out_rule(
     fields: &Fields<Loc>,
     target: Loc,
     places: u32,
@@ -58,7 +59,7 @@ pub fn out_rule(
 }
 
 // The rule of an in or read line.
-pub fn get_rule(
+fn get_rule(
     fields: &Fields<Slot>,
     target: Loc,
     places: u32,
@@ -107,4 +108,47 @@ pub fn eval_rule(net: &Net, estimate: &Estimate, set: u32, k: u8) -> bool
 {
     let need = UseMap::of_box(net, k, set);
     (0..32u8).all(|l| held(estimate, set, l, need))
+}
+
+// Whether the rule of a line that does this holds, `places` being its place set. Only lines that act have one.
+#[tactic(auto, unfolding(crate::specs::Own::own_rule, tables::specs::View::action_line))]
+fn action_rule(
+    action: &Action,
+    net: &Net,
+    estimate: &Estimate,
+    index: &RowIndex,
+    places: u32,
+) -> bool
+    requires { LowAction action.now }
+    ensures { IndexOf (estimate_view estimate.now) index.now.sets → result ≡ own_rule (net_view net.now) (estimate_view estimate.now) places (action_line action.now) }
+{
+    match action {
+        Action::Out { target, fields, .. } => { out_rule(fields, *target, places, estimate, index) }
+        Action::In { target, fields, .. } | Action::Read { target, fields, .. } => {
+            get_rule(fields, *target, places, estimate, index)
+        }
+        Action::Eval {
+            target,
+            sandbox,
+            ..
+        } => {
+            let set = flow::reach(*target, places, estimate);
+            eval_rule(net, estimate, set, *sandbox)
+        }
+        Action::Nil | Action::Par { .. } | Action::Rep { .. } | Action::Accept { .. } => true,
+    }
+}
+
+// Whether the rule of line q itself holds, `places` being its place set.
+pub fn own_rule(
+    net: &Net,
+    estimate: &Estimate,
+    index: &RowIndex,
+    lines: &Lines,
+    places: u32,
+    q: u8,
+) -> bool
+    ensures { IndexOf (estimate_view estimate.now) index.now.sets → result ≡ own_rule (net_view net.now) (estimate_view estimate.now) places (line_of lines.now q) }
+{
+    action_rule(&lines.action(q), net, estimate, index, places)
 }

@@ -34,7 +34,6 @@ use Rattle.state.specs.Fits.{Fits}
 use Rattle.state.proofs.On.{fits_on, answering_fits}
 use Rattle.state.proofs.Few.{threads_count}
 use Rattle.plan.specs.declared.Use.{Use}
-use Rattle.plan.specs.declared.Use.TheVariants.{Nothing, Right}
 use Rattle.plan.specs.declared.Change.{Change}
 use Rattle.plan.specs.declared.Change.TheVariants.{Appended}
 use Rattle.plan.specs.declared.Move.{Move}
@@ -87,10 +86,10 @@ module _ (guarded : Bool) {st : State} (f : Fits st) (k m r : ℕ) where
     step_stops e p = from_plan (sym (ap (plan_view (state_view st) k m) e) ∙ p k)
 
     module _ (v : Move) (p : move_view (state_view st) k m v ≡ plan (state_view st) k th m r (line_at (state_view st).lines th.line)) where
-      by_use : (u : Use) (new : Spec.State) → finish guarded (state_view st) th (plan_by u new) ≡ cond (may guarded (state_view st).net th u) (limit (state_view st) (event_of th.site u) new) (refuse 26 0 (state_view st))
+      by_use : (u : Prelude.Option Use) (new : Spec.State) → finish guarded (state_view st) th (plan_by u new) ≡ cond (may guarded (state_view st).net th u) (limit (state_view st) (event_of th.site u) new) (refuse 26 0 (state_view st))
       unfolding finish
-      by_use Nothing new = refl
-      by_use (Right target right) new = refl
+      by_use Prelude.None new = refl
+      by_use (Prelude.Some u) new = refl
 
       by_tests : step guarded (state_view st) k m r ≡ cond (may guarded (state_view st).net th v.uses) (limit (state_view st) (event_of th.site v.uses) (state_after (state_view st) k m v)) (refuse 26 0 (state_view st))
       by_tests = from_plan p ∙ by_use v.uses (state_after (state_view st) k m v)

@@ -1,6 +1,6 @@
 -- What a step promises, and what it finds of a move before it is made.
 -- Assumes nothing.
-use Rattle.std.specs.Prelude.{◌≡◌, Bool, true, not, ℕ, ◌<◌, ◌≤◌, leb, length, get_or}
+use Rattle.std.specs.Prelude.{◌≡◌, Option, None, Some, Bool, true, not, ℕ, ◌<◌, ◌≤◌, leb, length, get_or}
 use Rattle.std.specs.Prelude as Prelude
 use Rattle.sets.specs.Lists.{◌&◌, either}
 use Rattle.klaim.specs.Limits.{thread_limit, tuple_limit}
@@ -15,19 +15,18 @@ use Rattle.state.specs.declared.State.{State}
 use Rattle.state.specs.View.{state_view, answer_view, result_view, gone_on}
 use Rattle.state.specs.Fits.{Fits}
 use Rattle.plan.specs.declared.Use.{Use}
-use Rattle.plan.specs.declared.Use.TheVariants.{Nothing, Right}
 use Rattle.plan.specs.declared.Move.{Move}
 use Rattle.plan.specs.Move.{IsChange, state_after}
 
 -- what a step of a thread at site s answers, by what it uses: "'silent' .. its site, target and right"
-abbrev pub event_of : ℕ → Use → Engine.Event
-event_of s Nothing = Engine.silent
-event_of s (Right target right) = Engine.performed s target right
+abbrev pub event_of : ℕ → Option Use → Engine.Event
+event_of s None = Engine.silent
+event_of s (Some u) = Engine.performed s u.target u.right
 
 -- 26: "Guarded steps need the right ..; bare ones need neither"
-abbrev pub may : Bool → Net → Spec.Thread → Use → Bool
-may guarded N th Nothing = true
-may guarded N th (Right target right) = either (not guarded) (Engine.permits N th target right)
+abbrev pub may : Bool → Net → Spec.Thread → Option Use → Bool
+may guarded N th None = true
+may guarded N th (Some u) = either (not guarded) (Engine.permits N th u.target u.right)
 
 -- 27: "lists after the step would exceed 64 or 256"
 abbrev pub room : Spec.State → Bool

@@ -6,7 +6,7 @@ ghost use Rattle.klaim.specs.Engine.{permits as permits_of};
 ghost use Rattle.klaim.specs.State.{settle as settle_in};
 ghost use Rattle.tables.specs.View.{lines_of, tuples_of, net_view};
 ghost use Rattle.threads.specs.View.{thread_view, threads_of};
-ghost use Rattle.state.specs.View.{state_view, event_view};
+ghost use Rattle.state.specs.View.{state_view, event_view, gone_on};
 ghost use Rattle.state.specs.Fits.{Fits};
 ghost use Rattle.state.specs.Table.{TableAfter};
 ghost use Rattle.plan.specs.Move.{IsUse, IsChange, added_after, tuples_after, state_after};
@@ -30,15 +30,15 @@ fn permitted(net: &Net, th: Thread, t: u8, right: u8) -> bool
 }
 
 // Whether a step of the thread has the right that it uses: one is asked of a guarded step that uses one.
-fn may(guarded: bool, net: &Net, th: Thread, uses: Use) -> bool
+fn may(guarded: bool, net: &Net, th: Thread, uses: Option<Use>) -> bool
     requires { (th.site.0 < 32) × IsUse uses }
     ensures { result ≡ may_of guarded (net_view net.now) (thread_view th) uses }
 {
     match uses {
-        Use::Nothing => true,
-        Use::Right { target, right } => {
+        None => true,
+        Some(used) => {
             if guarded {
-                permitted(net, th, target, right)
+                permitted(net, th, used.target, used.right)
             } else {
                 true
             }
@@ -108,15 +108,15 @@ fn decide(state: &State, guarded: bool, k: usize, m: usize, r: usize) -> Result<
 }
 
 // What a step of a thread at a site answers, by what it uses.
-fn event(site: u8, uses: Use) -> Event
+fn event(site: u8, uses: Option<Use>) -> Event
     ensures { event_view result ≡ event_of site uses }
 {
     match uses {
-        Use::Nothing => Event::Silent,
-        Use::Right { target, right } => Event::Performed {
+        None => Event::Silent,
+        Some(used) => Event::Performed {
             site,
-            target,
-            right,
+            target: used.target,
+            right: used.right,
         },
     }
 }
@@ -163,6 +163,7 @@ fn perform(state: &mut State, k: usize, m: usize, v: Move)
 pub fn step(state: &mut State, guarded: bool, k: usize, m: usize, r: usize)
     requires { Fits state.old }
     ensures stepped { Stepped guarded state.old k m r state.new }
+    ensures kept { state.new ≡ gone_on state.old state.new.tuples state.new.threads state.new.told }
     ensures table { TableAfter state.old.tuples m state.new.tuples }
 {
     match decide(state, guarded, k, m, r) {

@@ -30,7 +30,11 @@ returns-else-next-lt-LINES-2 c = rw c.in-Eval.is (both_no _ (le-ltb _ _ c.if-nex
 
 pub returns-in-Rep : goal.returns-in-Rep
 unfolding all children line_view
-returns-in-Rep c = ⊎_elim (λ e. rw e (sym (and_true _))) (⊎_elim (λ e. rw e.2 (sym (and_true _))) (λ e. rw e.1 (sym (and_true _)))) c.in-Rep.is
+returns-in-Rep c = ⊎_elim (λ e. rw e (sym (and_true _))) (λ e. rw e.1 (sym (and_true _))) c.in-Rep.is
+
+pub returns-in-Out : goal.returns-in-Out
+unfolding all children line_view acts_of
+returns-in-Out c = rw c.in-Out.is (sym (and_true _))
 
 pub returns-in-In : goal.returns-in-In
 unfolding all children line_view acts_of

@@ -15,11 +15,11 @@ use Rattle.judge.proofs.low_line.Goals as goal
 
 pub returns-then-low_site : goal.returns-then-low_site
 unfolding bound_in
-returns-then-low_site c = rw (c.in-Out.is, out_slots c.in-Out.next c.in-Out.target c.in-Out.fields, sites_behind (λ s. ltb s c.args.n) (λ (t : Target). Value (loc t)) c.in-Out.target (items c.in-Out.fields)) (both_yes c.if-low_site.true c.low_site.ensures c.low_sites_of.ensures)
+returns-then-low_site c = rw (c.in-Out.is, out_slots c.in-Out.put, sites_behind (λ s. ltb s c.args.n) (λ (t : Target). Value (loc t)) c.in-Out.put.target (items c.in-Out.put.fields)) (both_yes c.if-low_site.true c.low_site.ensures c.low_sites_of.ensures)
 
 pub returns-else-low_site : goal.returns-else-low_site
 unfolding bound_in
-returns-else-low_site c = rw (c.in-Out.is, out_slots c.in-Out.next c.in-Out.target c.in-Out.fields, sites_behind (λ s. ltb s c.args.n) (λ (t : Target). Value (loc t)) c.in-Out.target (items c.in-Out.fields)) (both_no _ c.if-low_site.false c.low_site.ensures)
+returns-else-low_site c = rw (c.in-Out.is, out_slots c.in-Out.put, sites_behind (λ s. ltb s c.args.n) (λ (t : Target). Value (loc t)) c.in-Out.put.target (items c.in-Out.put.fields)) (both_no _ c.if-low_site.false c.low_site.ensures)
 
 pub returns-in-Eval : goal.returns-in-Eval
 unfolding line_view acts_of slots_of concat all

@@ -16,11 +16,11 @@ use Rattle.judge.proofs.low_variables.Goals as goal
 
 pub returns-then-low_variable : goal.returns-then-low_variable
 unfolding bound_in
-returns-then-low_variable c = rw (c.in-Out.is, out_slots c.in-Out.next c.in-Out.target c.in-Out.fields, variables_behind (λ u. ltb u var_limit) (λ (t : Target). Value (loc t)) c.in-Out.target (items c.in-Out.fields) (λ (t : Target). used_in (Value (loc t)) ⧺ []) (λ t. refl)) (both_yes c.if-low_variable.true c.low_variable.ensures c.low_variables_of.ensures)
+returns-then-low_variable c = rw (c.in-Out.is, out_slots c.in-Out.put, variables_behind (λ u. ltb u var_limit) (λ (t : Target). Value (loc t)) c.in-Out.put.target (items c.in-Out.put.fields) (λ (t : Target). used_in (Value (loc t)) ⧺ []) (λ t. refl)) (both_yes c.if-low_variable.true c.low_variable.ensures c.low_variables_of.ensures)
 
 pub returns-else-low_variable : goal.returns-else-low_variable
 unfolding bound_in
-returns-else-low_variable c = rw (c.in-Out.is, out_slots c.in-Out.next c.in-Out.target c.in-Out.fields, variables_behind (λ u. ltb u var_limit) (λ (t : Target). Value (loc t)) c.in-Out.target (items c.in-Out.fields) (λ (t : Target). used_in (Value (loc t)) ⧺ []) (λ t. refl)) (both_no _ c.if-low_variable.false c.low_variable.ensures)
+returns-else-low_variable c = rw (c.in-Out.is, out_slots c.in-Out.put, variables_behind (λ u. ltb u var_limit) (λ (t : Target). Value (loc t)) c.in-Out.put.target (items c.in-Out.put.fields) (λ (t : Target). used_in (Value (loc t)) ⧺ []) (λ t. refl)) (both_no _ c.if-low_variable.false c.low_variable.ensures)
 
 pub returns-in-Eval : goal.returns-in-Eval
 unfolding line_view acts_of slots_of concat all

@@ -4,8 +4,8 @@ use Rattle.rows.proofs.Rows.{refused_list}
 use Rattle.listing.proofs.Reading.{refused_fits, fits_in}
 use Rattle.listing.proofs.put_refusal.Goals as goal
 
-pub overflow_cast-row : goal.overflow_cast-row
-overflow_cast-row c = omega (arith, c.requires.0)
+pub overflow_cast-refusal : goal.overflow_cast-refusal
+overflow_cast-refusal c = omega (arith, c.requires.0)
 
 pub put_refused-requires : goal.put_refused-requires
 put_refused-requires c = rw c.from.ensures (omega (arith, refused_fits c.number.result c.args.refusal.row (omega (arith, c.number.type_inv)) c.requires.0, c.requires.1))

@@ -13,7 +13,7 @@ use Rattle.plan.proofs.plan_accept.Goals as goal
 
 pub returns-in_default-clause-value : goal.returns-in_default-clause-value
 unfolding state_view
-returns-in_default-clause-value c = λ k m. accept_unknown (state_view c.args.state.now) k m c.args.r (thread_view c.args.th) c.args.a c.args.d (placed_none c.args.state.now.arrivals c.args.r c.arrival_at.ensures c.in_default.not-Some)
+returns-in_default-clause-value c = λ s k m. accept_unknown (state_view c.args.state.now) k m c.args.r (thread_view c.args.th) c.args.a c.args.d (placed_none c.args.state.now.arrivals c.args.r c.arrival_at.ensures c.in_default.not-Some)
 
 pub returns-then-not-admitted-clause-value : goal.returns-then-not-admitted-clause-value
 unfolding state_view
@@ -21,7 +21,7 @@ returns-then-not-admitted-clause-value c =
     let at = c.args.state.now.arrivals in
     let p = subst (λ (o : Option ℕ). Placed at c.args.r o) c.in-Some.is c.arrival_at.ensures in
     let st = state_view c.args.state.now in
-    λ k m. accept_shut st k m c.args.r (thread_view c.args.th) c.args.a c.args.d p.2 (ap (λ (x : ℕ). door st.net st.estimate c.args.d c.args.th.site.0 (tree st.lines x)) (sym p.1) ∙ sym c.admitted.ensures ∙ c.if-not-admitted.true)
+    λ s k m. accept_shut st k m c.args.r (thread_view c.args.th) c.args.a c.args.d p.2 (ap (λ (x : ℕ). door st.net st.estimate c.args.d c.args.th.site.0 (tree st.lines x)) (sym p.1) ∙ sym (c.admitted.ensures s) ∙ c.if-not-admitted.true)
 
 pub returns-clause-value : goal.returns-clause-value
 unfolding state_view
@@ -29,6 +29,6 @@ returns-clause-value c =
     let at = c.args.state.now.arrivals in
     let p = subst (λ (o : Option ℕ). Placed at c.args.r o) c.in-Some.is c.arrival_at.ensures in
     let st = state_view c.args.state.now in
-    λ k m. c.plan_guest.ensures.value k m
+    λ s k m. c.plan_guest.ensures.value k m
     ∙ ap (λ (x : ℕ). accept_plan st k (thread_view c.args.th) x c.args.a c.args.d true true) p.1
-    ∙ accept_open st k m c.args.r (thread_view c.args.th) c.args.a c.args.d p.2 (ap (λ (x : ℕ). door st.net st.estimate c.args.d c.args.th.site.0 (tree st.lines x)) (sym p.1) ∙ sym c.admitted.ensures ∙ c.if-not-admitted.false)
+    ∙ accept_open st k m c.args.r (thread_view c.args.th) c.args.a c.args.d p.2 (ap (λ (x : ℕ). door st.net st.estimate c.args.d c.args.th.site.0 (tree st.lines x)) (sym p.1) ∙ sym (c.admitted.ensures s) ∙ c.if-not-admitted.false)

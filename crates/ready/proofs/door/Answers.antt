@@ -10,6 +10,8 @@ use Rattle.klaim.specs.Report.{door}
 use Rattle.state.specs.View.{state_view}
 use Rattle.plan.specs.Move.{Placed}
 use Rattle.plan.proofs.Laws.{placed_none}
+use Rattle.plan.proofs.Fitted.{admits, sound_here}
+use Rattle.state.proofs.Few.{sites_few}
 use Rattle.ready.proofs.Laws.{door_unknown, door_far, door_other, door_gives}
 use Rattle.ready.proofs.door.Goals as goal
 
@@ -45,4 +47,10 @@ returns c =
     let near : c.args.l < c.args.state.now.net.size = omega (arith, c.if-from-l.false, c.from-2.ensures) in
     let st = state_view c.args.state.now in
     let p = subst (λ (o : Option ℕ). Placed rs c.args.r o) c.in-Some.is c.arrival_at.ensures in
-    door_gives st c.args.r c.args.l c.args.d p.2 near c.if-d-ge-SANDBOXES.false (c.admitted.ensures ∙ ap (λ (x : ℕ). door st.net st.estimate c.args.d c.args.l (tree st.lines x)) p.1)
+    door_gives st c.args.r c.args.l c.args.d p.2 near c.if-d-ge-SANDBOXES.false (c.admitted.ensures (sound_here c.requires c.args.l near) ∙ ap (λ (x : ℕ). door st.net st.estimate c.args.d c.args.l (tree st.lines x)) p.1)
+
+pub admitted-requires : goal.admitted-requires
+admitted-requires c =
+    let near : c.args.l < c.args.state.now.net.size = omega (arith, c.if-from-l.false, c.from-2.ensures) in
+    let p = subst (λ (o : Option ℕ). Placed c.args.state.now.arrivals c.args.r o) c.in-Some.is c.arrival_at.ensures in
+    (admits c.requires, p.0, omega (arith, near, sites_few c.requires), c.if-d-ge-SANDBOXES.false)

@@ -1,4 +1,5 @@
 use mathlib.Core.Path.{◌≡◌, sym, ap, subst, ◌∙◌}
+use Rattle.threads.specs.declared.Thread.{Thread}
 use Prim.Native.Nat.{ℕ, suc, ◌<◌, ◌+◌}
 use native.Mathlib.Omega.{arith}
 use Rattle.sets.specs.Lists.{keep, below}
@@ -6,8 +7,8 @@ use Rattle.klaim.specs.Analysis.{least}
 use Rattle.klaim.specs.Engine.{runnable, ready}
 use Rattle.state.specs.View.{state_view}
 use Rattle.state.proofs.Few.{threads_count}
-use Rattle.plan.specs.Move.{Plannable}
-use Rattle.plan.proofs.Fitted.{plannable}
+use Rattle.plan.specs.Move.{SoundAt, Plannable}
+use Rattle.plan.proofs.Fitted.{plannable, thread_sound}
 use Rattle.ready.proofs.Runnable.{lowest_start, lowest_here, lowest_later, lowest_end}
 use Rattle.ready.proofs.Laws.{lent_runnable, lent_count, lent_thread}
 use Rattle.ready.proofs.first.Goals as goal
@@ -22,7 +23,7 @@ pub can_step-requires : goal.can_step-requires
 can_step-requires c =
     let k = c.loop-k.k in
     let h : k < c.args.state.now.threads.count = omega (arith, lent_count c.args.state.now.threads c.requires.1) in
-    subst (Plannable c.args.state.now) (sym (lent_thread c.args.state.now.threads c.requires.1 k h)) (plannable c.requires.0 k h)
+    subst (λ (th : Thread). Plannable c.args.state.now th × SoundAt c.args.state.now th.site.0) (sym (lent_thread c.args.state.now.threads c.requires.1 k h)) (plannable c.requires.0 k h, thread_sound c.requires.0 k h)
 
 pub returns-then-can_step : goal.returns-then-can_step
 returns-then-can_step c =

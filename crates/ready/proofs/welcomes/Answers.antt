@@ -11,7 +11,7 @@ unfolding welcome
 returns-then-has_room c =
     let st = state_view c.args.state.now in
     let r = arrival_root c.args.state.now.arrivals c.args.i in
-    c.admitted.ensures ∙ fits_sound _ _ (ap (λ (n : ℕ). room n st.lines c.args.a r) (threads_count c.args.state.now) ∙ sym c.has_room.ensures ∙ c.if-has_room.true)
+    c.admitted.ensures c.requires.1 ∙ fits_sound _ _ (ap (λ (n : ℕ). room n st.lines c.args.a r) (threads_count c.args.state.now) ∙ sym c.has_room.ensures ∙ c.if-has_room.true)
 
 pub returns : goal.returns
 unfolding welcome

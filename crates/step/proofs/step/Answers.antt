@@ -6,3 +6,6 @@ returns-in-Ok-clause-stepped c = stepped_yes c.requires c.in-Ok.ensures c.perfor
 
 pub returns-in-Err-clause-stepped : goal.returns-in-Err-clause-stepped
 returns-in-Err-clause-stepped c = stepped_no c.requires c.in-Err.ensures c.from.ensures
+
+pub returns-in-Ok-clause-kept : goal.returns-in-Ok-clause-kept
+returns-in-Ok-clause-kept c = c.perform.ensures.performed.kept
