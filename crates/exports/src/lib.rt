@@ -20,7 +20,7 @@ const REFUSED: u32 = 196608;
 // What `ready` says of no place.
 const NO_PLACE: u32 = 64;
 
-// Bytes of `choices` for one call: three numbers.
+// Bytes of `choices` for one call: three numbers. Every `salmurkki_..` below is called from C by its name.
 const CHOICE: usize = 3;
 
 // What check answers as a number.

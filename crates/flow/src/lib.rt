@@ -14,7 +14,7 @@ ghost use Rattle.flow.specs.Part.{part_of};
 
 use klaim::Loc;
 use std::array;
-use tables::{Action, Estimate, Lines, Net};
+use tables::{Action, Estimate, Lines, Net, SITES};
 
 // The reach of a target or field, `places` being the place set: the sites that it may stand for.
 #[tactic(auto, unfolding(klaim::specs::Analysis::reach))]
@@ -71,12 +71,10 @@ pub fn box_sure(net: &Net, k: u8, set: u32, t: u8) -> u8
 // Use map: rights for each site.
 #[derive(Clone, Copy)]
 pub struct UseMap {
-    pub rights: [u8; 32],
+    pub rights: [u8; SITES],
 }
 
 impl UseMap {
-    pub const SITES: usize = 32;
-
     pub const OUT: u8 = 1;
 
     pub const IN: u8 = 2;
@@ -95,7 +93,7 @@ impl UseMap {
         ensures { result.rights ≡ table 32 (λ s. 0) }
     {
         UseMap {
-            rights: [0u8; UseMap::SITES],
+            rights: [0u8; SITES],
         }
     }
 
@@ -143,7 +141,8 @@ impl UseMap {
     }
 }
 
-// What a line adds to a use map: the lines that follow, then a right on a target, or a sandbox.
+// What a line adds to a use map: the lines that follow, then a right on a target, or a sandbox. A type of its own, so that the four
+// actions that use a right on a target have one arm in the walk.
 #[derive(Clone, Copy)]
 enum Part {
     Nothing,

@@ -1,4 +1,4 @@
-//! The names that targets and fields are made of. The definitions of documents 01 and 02 stand in specs/.
+//! The names that targets and fields are made of, one to four fields, and refusals. The definitions of documents 01 and 02 stand in specs/.
 #![tactic(auto)]
 
 ghost use Rattle.std.specs.Prelude.{◌≡◌, ◌≤◌, length, map};

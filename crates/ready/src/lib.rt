@@ -90,7 +90,7 @@ fn can_step(state: &State, th: &Thread) -> bool
     }
 }
 
-// The lowest place of a lent thread that can make a bare step.
+// The lowest place of a thread of the state that can make a bare step; its threads are lent as one slice.
 fn first(state: &State, threads: &[Thread]) -> Option<u8>
     requires { Fits state.now × (threads.now ≡ entries state.now.threads) }
     ensures { option_of (λ (k : ℕ). k) result ≡ ready_of (state_view state.now) }

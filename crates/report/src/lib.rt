@@ -14,7 +14,7 @@ ghost use Rattle.report.specs.Given.{Rooted, RowAdded};
 use flow::UseMap;
 use klaim::Loc;
 use std::array;
-use tables::{Action, Estimate, Lines, Net, REPORT, Root};
+use tables::{Action, Estimate, Lines, Net, REPORT, Root, SITES};
 
 // What a has and b lacks.
 fn less(a: u8, b: u8) -> u8
@@ -45,7 +45,7 @@ fn less_home(m: UseMap, net: &Net, site: u8) -> UseMap
 fn is_empty(m: UseMap) -> bool
     ensures { result ≡ all (λ t. eqb (get_or m.rights t 0) 0) (below 32) }
 {
-    (0..UseMap::SITES).all(|t| m.rights[t] == 0)
+    (0..SITES).all(|t| m.rights[t] == 0)
 }
 
 // The rights of a use map added to the report for one subject, where it is in the set.
@@ -54,8 +54,8 @@ fn add_row(bytes: &mut [u8; REPORT], set: u32, subject: u8, m: UseMap)
     ensures { RowAdded set subject m.rights bytes.old bytes.new }
 {
     if sets::has_site(set, subject) {
-        let at = UseMap::SITES * usize::from(subject);
-        for object in 0..UseMap::SITES {
+        let at = SITES * usize::from(subject);
+        for object in 0..SITES {
             bytes[at + object] |= m.rights[object];
         }
     }
@@ -79,7 +79,8 @@ fn put_holds(bytes: &mut [u8; REPORT], net: &Net, estimate: &Estimate)
     }
 }
 
-// What a line adds to the report: the lines that follow, then the target, the body and the sandbox of an eval.
+// What a line adds to the report: the lines that follow, then the target, the body and the sandbox of an eval. A type of its own, so
+// that the five actions that one line follows have one arm in both walks, of the report and of the test that it is empty.
 #[derive(Clone, Copy)]
 enum Evals {
     Nothing,
@@ -156,7 +157,7 @@ pub fn report(net: &Net, estimate: &Estimate) -> [u8; REPORT]
     requires { Rooted net.now.lines net.now.roots }
     ensures { result ≡ report_of (net_view net.now) (estimate_view estimate.now) }
 {
-    let mut bytes = [0u8; 1024];
+    let mut bytes = [0u8; REPORT];
     put_holds(&mut bytes, net, estimate);
     for root in net.roots.as_slice() {
         add_root(&mut bytes, net, estimate, *root);

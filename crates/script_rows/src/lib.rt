@@ -1,7 +1,7 @@
 //! The rows of an input that comes in pieces: a buffer holds what has come and is not done with, a window says where it stands.
 #![tactic(auto)]
 
-ghost use Rattle.std.specs.Prelude.{◌≡◌, not, ◌+◌, ◌<◌, ◌-◌, ◌≤◌, length, take, slice_range, IfOk};
+ghost use Rattle.std.specs.Prelude.{◌≡◌, true, false, not, ◌+◌, ◌<◌, ◌-◌, ◌≤◌, length, take, slice_range, IfOk};
 ghost use Rattle.klaim.specs.Rows.{newline};
 ghost use Rattle.text.specs.Pieces.{end_of};
 ghost use Rattle.script_rows.specs.Window.{Within, Found, Alone, dot_row, Dotted, LongRow, Seeks, Turned, Roomy, Given, Read};
@@ -42,7 +42,8 @@ pub struct Window {
 impl Window {
     // An input of which nothing has come yet.
     pub fn fresh() -> Window
-        ensures { (result.from ≡ 0) × (result.row ≡ 0) × (result.next ≡ 0) × (result.to ≡ 0) }
+        ensures places { (result.from ≡ 0) × (result.row ≡ 0) × (result.next ≡ 0) × (result.to ≡ 0) }
+        ensures more { result.more ≡ true }
     {
         Window {
             more: true,
@@ -52,7 +53,8 @@ impl Window {
 
     // An input of n bytes that is in the buffer as a whole.
     pub fn whole(n: usize) -> Window
-        ensures { (result.from ≡ 0) × (result.row ≡ 0) × (result.next ≡ 0) × (result.to ≡ n) }
+        ensures places { (result.from ≡ 0) × (result.row ≡ 0) × (result.next ≡ 0) × (result.to ≡ n) }
+        ensures more { result.more ≡ false }
     {
         Window {
             more: false,
@@ -155,6 +157,7 @@ impl<'a, R: Read> Incoming<'a, R> {
     // An input of which nothing has come yet.
     pub fn fresh(input: &'a mut R, buf: &'a mut [u8]) -> Incoming<'a, R>
         ensures places { (result.window.from ≡ 0) × (result.window.row ≡ 0) × (result.window.next ≡ 0) × (result.window.to ≡ 0) }
+        ensures more { result.window.more ≡ true }
         ensures kept { result.buf.now ≡ buf.old }
     {
         Incoming {
@@ -167,6 +170,7 @@ impl<'a, R: Read> Incoming<'a, R> {
     // An input that is in the buffer as a whole: nothing is read.
     pub fn whole(input: &'a mut R, buf: &'a mut [u8]) -> Incoming<'a, R>
         ensures places { (result.window.from ≡ 0) × (result.window.row ≡ 0) × (result.window.next ≡ 0) × (result.window.to ≡ length buf.old) }
+        ensures more { result.window.more ≡ false }
         ensures kept { result.buf.now ≡ buf.old }
     {
         let n = buf.len();

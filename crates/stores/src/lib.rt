@@ -60,7 +60,8 @@ pub fn put_box(t: &mut [u8; BOXES], sandbox: &Sandbox)
     t[box_place(sandbox)] = sandbox.rights;
 }
 
-// The site of a B row, added to the set of its variable.
+// The site of a B row, added to the set of its variable. One statement, as for R and E rows: one function over both tables, with the
+// place and what is added handed to it, would be longer than both.
 pub fn put_bound(t: &mut [u32; VARIABLES], bound: &Bound)
     requires variable_low { bound.now.variable < 32 }
     requires site_low { bound.now.site < 32 }

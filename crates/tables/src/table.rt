@@ -13,6 +13,7 @@ pub struct Table<T, const N: usize> {
     pub ghost long: { length items ≡ N },
 }
 
+// By hand: `Clone` is not derived over the ghost fields of a generic struct.
 impl<T: Copy, const N: usize> Clone for Table<T, N> {
     fn clone(&self) -> Result<Self, AllocError> {
         Ok(*self)

@@ -27,7 +27,7 @@ fn child_fits(q: usize, n: usize, child: u8) -> bool
     q < child && child < n
 }
 
-// The lines that a line names.
+// The lines that a line names. A type of its own, since two walks ask for them.
 #[derive(Clone, Copy)]
 enum Children {
     Zero,
@@ -68,7 +68,7 @@ fn children_fit(cs: Children, q: usize, n: usize) -> bool
     }
 }
 
-// Whether each child is greater than its parent and one of the n lines.
+// Whether each child is greater than its parent and one of the lines.
 fn in_order(lines: &Lines) -> bool
     ensures { result ≡ ordered (lines_of lines.now) }
 {
@@ -80,7 +80,7 @@ fn in_order(lines: &Lines) -> bool
     true
 }
 
-// Whether the lines of the m roots are among the n lines.
+// Whether the lines of the roots are among the n lines.
 fn roots_present(roots: &Roots, n: usize) -> bool
     ensures { result ≡ all (λ q. ltb q n) (map (λ x. x.line) (roots_of roots.now)) }
 {
@@ -123,7 +123,7 @@ fn named_children(counts: &mut [u8; LINES], cs: Children)
     }
 }
 
-// The children of all n lines named once more.
+// The children of all lines named once more.
 fn named_lines(counts: &mut [u8; LINES], lines: &Lines)
     ensures { (xs : List ℕ) → Counted xs counts.old → Counted (xs ⧺ concat children (lines_of lines.now)) counts.new }
 {
@@ -145,7 +145,7 @@ fn all_one(counts: &[u8; LINES], n: usize) -> bool
     true
 }
 
-// How often each line is named by the m roots.
+// How often each line is named by the roots.
 fn named_roots(roots: &Roots) -> [u8; LINES]
     ensures { Counted (map (λ x. x.line) (roots_of roots.now)) result }
 {
@@ -156,7 +156,7 @@ fn named_roots(roots: &Roots) -> [u8; LINES]
     counts
 }
 
-// Whether each of the n lines is named once, by a parent or by one of the m roots.
+// Whether each line is named once, by a parent or by a root.
 fn named_once(lines: &Lines, roots: &Roots) -> bool
     ensures { result ≡ named_once (lines_of lines.now) (map (λ x. x.line) (roots_of roots.now)) }
 {
