@@ -3,7 +3,6 @@
 use mathlib.Core.Path.{◌≡◌, refl, sym, ap, ap₂, ◌∙◌}
 use mathlib.Core.Bool.{Bool, true, false, false≢true}
 use mathlib.Core.List.{List, [], ◌∷◌, ◌++◌}
-use mathlib.Core.Option.{some}
 use Prim.Native.Nat.{ℕ, ◌+◌, ◌<◌}
 use native.Mathlib.Omega.{arith}
 use lib.Dec.{eqb, leb}
@@ -12,7 +11,7 @@ use Rattle.sets.specs.Lists.{All, done, more, ◌&◌, either, all}
 use Rattle.sets.proofs.Lists.{eqb_eq, nleb_lt, All-append, or_false, and_yes}
 use Rattle.klaim.specs.Process.{Line}
 use Rattle.klaim.specs.Rows.{Row, row_line, group_t, group_l, group_q, group_a}
-use Rattle.klaim.specs.Reader.{an_arrival, of_group, present, full, headed, own, in_order, site_count, repeated, judge, lines_of}
+use Rattle.klaim.specs.Reader.{Text, an_arrival, of_group, present, full, headed, own, in_order, repeated, lines_of}
 use Rattle.klaim.proofs.Above.{map_own}
 use Rattle.tables.specs.View as View
 use Rattle.tables.specs.View.{Lines}
@@ -24,11 +23,10 @@ use Rattle.forms.specs.declared.rows.Row.{Row as FormRow}
 use Rattle.forms.specs.declared.rows.Row.TheVariants as Form
 use Rattle.forms.specs.Forms.{size_data, pair_data, box_data, tuple_data, root_data, process_data, bound_data, row_data}
 use Rattle.scan.specs.declared.Tally.{Tally}
-use Rattle.scan.specs.Reasons.{early_of, late_of, judging_of, judged_by}
+use Rattle.scan.specs.Reasons.{fitting}
 use Rattle.scan.specs.Tallies.{counted_of}
-use Rattle.scan.proofs.Reasons.{formed}
 use Rattle.scan.proofs.Tallies.{and_under, none_full, counted_turn}
-use Rattle.arrivals.specs.Rows.{ArrivalTally, full_of}
+use Rattle.arrivals.specs.Rows.{ArrivalTally, ArrivalHolds, full_of}
 
 -- as many lines stand in the table as Q rows stand above
 line_count : (above : List Row) (lines : Lines) → View.lines_of lines ≡ lines_of above → length (of_group group_q above) ≡ lines.count
@@ -60,16 +58,14 @@ unfolding ◌&◌
 and_known true h = h refl
 and_known false h = refl
 
--- the tests of a row that stands below those that are held
-module _ (n : ℕ) (above : List Row) (r : Row) (R : ArrivalReader) (Y : ArrivalTally n R.present above R.tally R.lines) where
-  placed_is : headed (an_arrival n R.present) above r & own (an_arrival n R.present) r.group & in_order above r ≡ eqb r.group group_q
-  unfolding headed own in_order
-  placed_is = and_yes _ refl ∙ and_known (eqb r.group group_q) (λ e. all_own n R.present r.group above Y.owned (eqb_eq e))
+-- 2 and 3 of a row that stands below those that are held
+module _ {t : Text} {above : List Row} {R : ArrivalReader} (H : ArrivalHolds t above R) where
+  pub full_law : (g : ℕ) → full_of g R ≡ full t g (length (of_group g above))
+  full_law g = rw H.text (sym (full_is H.n g above R H.counts.owned (line_count above R.lines H.counts.lines_is)))
 
-  -- "Each row top down: 1, 2, 3, 4, 7."
-  pub judged_is : judge (an_arrival n R.present) above (some r) ≡ judged_by (judging_of (early_of r (full_of r.group R) (eqb r.group group_q)) (repeated above r) (late_of R.tally.size r)) r
-  unfolding site_count
-  judged_is = rw (← full_is n r.group above R Y.owned (line_count above R.lines Y.lines_is), ← placed_is, Y.size_is) (formed (an_arrival n R.present) above r)
+  pub placed_law : {g : ℕ} (r : Row) → r.group ≡ g → eqb g group_q ≡ fitting t above r
+  unfolding headed own in_order
+  placed_law r e = rw (← e, H.text) (sym (and_yes _ refl ∙ and_known (eqb r.group group_q) (λ q. all_own H.n R.present r.group above H.counts.owned (eqb_eq q))))
 
 pub not_repeated : (above : List Row) (r : Row) → eqb r.group group_q ≡ true → repeated above r ≡ false
 unfolding repeated ◌&◌

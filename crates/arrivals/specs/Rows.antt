@@ -1,14 +1,12 @@
 -- What a reader of an arrival keeps of the rows above.
 -- Assumes nothing.
-use Rattle.std.specs.Prelude.{◌≡◌, Bool, true, false, List, ℕ, ◌+◌, eqb, leb, length}
+use Rattle.std.specs.Prelude.{◌≡◌, Bool, true, List, ℕ, ◌+◌, eqb, leb, length}
 use Rattle.sets.specs.Lists.{All, ◌&◌, below, same}
 use Rattle.klaim.specs.Limits.{line_limit}
 use Rattle.klaim.specs.Rows.{Row, group_q}
-use Rattle.klaim.specs.Reader.{Text, an_arrival, in_limits, own, numbers_of, lines_of}
+use Rattle.klaim.specs.Reader.{Text, an_arrival, own, numbers_of, lines_of}
 use Rattle.tables.specs.View as View
 use Rattle.tables.specs.View.{Lines}
-use Rattle.forms.specs.declared.rows.Row as Form
-use Rattle.forms.specs.Forms.{row_data}
 use Rattle.scan.specs.declared.Tally.{Tally}
 use Rattle.arrivals.specs.declared.reading.ArrivalReader.{ArrivalReader}
 
@@ -28,9 +26,3 @@ pub record ArrivalHolds (t : Text) (above : List Row) (r : ArrivalReader) : Type
 -- 2: "also past 256 lines in all"
 unfoldable pub full_of : ℕ → ArrivalReader → Bool
 full_of g r = eqb g group_q & leb line_limit (r.present + r.lines.count)
-
--- a Q row within limits
-pub record Passed (row : Form.Row) (r : ArrivalReader) : Type 0 where
-  pub low : in_limits (row_data row) ≡ true
-  pub room : full_of (row_data row).group r ≡ false
-  pub placed : eqb (row_data row).group group_q ≡ true

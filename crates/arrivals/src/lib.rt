@@ -1,23 +1,22 @@
 //! An arrival, read from its bytes: the Q rows that a bring takes.
 #![tactic(auto)]
 
-ghost use Rattle.std.specs.Prelude.{◌≡◌, List, [], ◌∷◌, ◌++◌, ℕ, ◌≤◌, eqb, OnOk};
+ghost use Rattle.std.specs.Prelude.{◌≡◌, List, [], ◌∷◌, ◌++◌, ℕ, ◌≤◌, eqb};
 ghost use Rattle.klaim.specs.Rows as Spec;
 ghost use Rattle.klaim.specs.Rows.{group_q};
-ghost use Rattle.klaim.specs.Reader.{Text, an_arrival, judge, whole, numbers_of, lines_of as lines_in, read_arrival};
+ghost use Rattle.klaim.specs.Reader.{Text, an_arrival, whole, numbers_of, lines_of as lines_in, read_arrival};
 ghost use Rattle.klaim.specs.Refusals.{answer_of};
-ghost use Rattle.std.proofs.Math.Option.{some};
 ghost use Rattle.forms.specs.Forms.{group_number, row_data};
-ghost use Rattle.scan.specs.Reasons.{judged_by};
+ghost use Rattle.scan.specs.Reasons.{Passed};
 ghost use Rattle.scan.specs.Tallies.{counted_of};
-ghost use Rattle.arrivals.specs.Rows.{ArrivalTally, ArrivalHolds, Passed, full_of};
+ghost use Rattle.arrivals.specs.Rows.{ArrivalTally, ArrivalHolds, full_of};
 ghost use Rattle.tables.specs.View.{lines_of};
 
 mod reading;
 
 use entries::{NO_LINE, NO_ROOT};
 use forms::{Group, Row};
-use klaim::{Reason, Refusal};
+use klaim::Refusal;
 use reading::ArrivalReader;
 use scan::{Reader, Tally};
 use tables::{LINES, Lines, Roots};
@@ -42,27 +41,9 @@ impl ArrivalReader {
         }
     }
 
-    // Whether no row of this group may follow.
-    fn is_full(&self, group: Group) -> bool
-        ensures { result ≡ full_of (group_number group) self.now }
-    {
-        // `&` has no branch, so that the proof has one path.
-        is_own(group) & (LINES <= self.present + self.lines.count)
-    }
-
-    // Whether the row is let through.
-    fn admits(&self, row: &Row) -> Result<(), Reason>
-        ensures judged { (t : Text) (above : List Spec.Row) → ArrivalHolds t above self.now → judge t above (some (row_data row.now)) ≡ judged_by result (row_data row.now) }
-        ensures passed { OnOk result (Passed row.now self.now) }
-    {
-        let group = row.group();
-        scan::early(row, self.is_full(group), is_own(group))?;
-        scan::late(row, self.tally.size)
-    }
-
     // The line of a Q row put into the table.
-    fn put(&mut self, row: &Row)
-        requires { Passed row.now self.old }
+    fn keep(&mut self, row: &Row)
+        requires { Passed (row_data row.now) (full_of (row_data row.now).group self.old) (eqb (row_data row.now).group group_q) }
         ensures same { (self.new.tally ≡ self.old.tally) × (self.new.present ≡ self.old.present) }
         ensures counts { (n : ℕ) (above : List Spec.Row) → ArrivalTally n self.old.present above self.old.tally self.old.lines → ArrivalTally n self.new.present (above ++ (row_data row.now ∷ [])) (counted_of row.now self.old.lines.count self.old.tally) self.new.lines }
     {
@@ -85,12 +66,32 @@ impl ArrivalReader {
 impl Reader for ArrivalReader {
     ghost holds = { ArrivalHolds };
 
-    fn take(&mut self, row: &Row) -> Result<(), Reason> {
-        self.admits(row)?;
+    ghost full_at = { full_of };
+
+    ghost placed_at = { λ g r. eqb g group_q };
+
+    fn is_full(&self, group: Group) -> bool {
+        // `&` has no branch, so that the proof has one path.
+        is_own(group) & (LINES <= self.present + self.lines.count)
+    }
+
+    fn is_placed(&self, group: Group) -> bool {
+        is_own(group)
+    }
+
+    // Q rows never repeat.
+    fn is_seen(&self, _row: &Row) -> bool {
+        false
+    }
+
+    fn size(&self) -> u16 {
+        self.tally.size
+    }
+
+    fn put(&mut self, row: &Row) {
         let lines = self.lines.count;
-        self.put(row);
+        self.keep(row);
         self.tally.count(row, lines);
-        Ok(())
     }
 }
 

@@ -3,7 +3,6 @@
 use mathlib.Core.Path.{◌≡◌, refl, sym, ap, ◌∙◌}
 use mathlib.Core.Bool.{Bool, true, false, cond}
 use mathlib.Core.List.{List, [], ◌∷◌, ◌++◌, map}
-use mathlib.Core.Option.{some}
 use Prim.Native.Nat.{ℕ, ◌<◌, ◌≤◌, ◌^◌}
 use native.Mathlib.Nat.{zero-add}
 use native.Mathlib.Omega.{arith}
@@ -15,7 +14,7 @@ use Rattle.sets.proofs.Lists.{and_l, and_r, eqb_eq, leb_le, nleb_lt, All-append}
 use Rattle.sets.proofs.Tables.{length_table}
 use Rattle.klaim.specs.Limits.{tuple_limit}
 use Rattle.klaim.specs.Rows.{Row, row_line, group_n, group_t, group_l, group_q, group_b, group_a, group_e}
-use Rattle.klaim.specs.Reader.{an_estimate, of_group, present, full, headed, own, in_order, site_count, repeated, judge, gather, pair_place, nth}
+use Rattle.klaim.specs.Reader.{Text, an_estimate, of_group, present, full, headed, own, in_order, gather, pair_place, nth}
 use Rattle.klaim.proofs.Above.{group_other, map_other, map_own, last_snoc}
 use Rattle.tables.specs.View.{Tuples, tuples_of}
 use Rattle.stores.specs.Sets.{pairs_of, bounds_of}
@@ -30,14 +29,13 @@ use Rattle.forms.specs.declared.rows.Row.TheVariants as Form
 use Rattle.forms.specs.Forms.{sites_of, size_data, pair_data, box_data, tuple_data, root_data, process_data, bound_data, row_data}
 use Rattle.scan.specs.declared.Tally.{Tally}
 use Rattle.scan.specs.Tallies.{last_number, counted_of}
-use Rattle.scan.specs.Reasons.{early_of, late_of, judging_of, judged_by}
-use Rattle.scan.proofs.Reasons.{formed}
+use Rattle.scan.specs.Reasons.{fitting, Passed}
 use Rattle.scan.proofs.Tallies.{and_under, none_full, counted_size, counted_last}
 use Rattle.repeats.specs.Kept.{Keys, KeysAre}
 use Rattle.repeats.proofs.Rows.{as_kept}
 use Rattle.repeats.proofs.Keys.{keys_other}
 use Rattle.estimates.specs.declared.reading.EstimateReader.{EstimateReader}
-use Rattle.estimates.specs.Rows.{EstimateTables, EstimateTally, Passed, full_of, placed_of}
+use Rattle.estimates.specs.Rows.{EstimateTables, EstimateTally, EstimateHolds, full_of, placed_of}
 
 -- no row of a foreign group is let through
 own_group : (g : ℕ) (t : Tally) → placed_of g t ≡ true → 7 ≤ g
@@ -154,7 +152,7 @@ module _ (n : ℕ) (above : List Row) (R : EstimateReader) (Y : EstimateTally n 
   placed_is r = rw (Y.order r)
 
   -- the tally, with the row more
-  pub tally_more : (row : FormRow) → Passed row R → EstimateTally n (above ++ (row_data row ∷ [])) (counted_of row 0 R.tally)
+  pub tally_more : (row : FormRow) → Passed (row_data row) (full_of (row_data row).group R) (placed_of (row_data row).group R.tally) → EstimateTally n (above ++ (row_data row ∷ [])) (counted_of row 0 R.tally)
   unfolding own placed_of
   tally_more row P =
       let r = row_data row in
@@ -168,11 +166,13 @@ module _ (n : ℕ) (above : List Row) (R : EstimateReader) (Y : EstimateTally n 
             ∙ ap (λ (x : Bool). cond x r.size t.size) (ne_eqb r.group group_n (λ e. omega (arith, leb_le group_b r.group b))) ∙ Y.size_is;
       }
 
-  -- "Each row top down: 1, 2, 3, 4, 7."
-  pub judged_is : (r : Row) → EstimateTables above R →
-      judge (an_estimate n) above (some r) ≡ judged_by (judging_of (early_of r (full_of r.group R) (placed_of r.group R.tally)) (repeated above r) (late_of R.tally.size r)) r
-  unfolding site_count
-  judged_is r T = rw (← full_is n r.group above Y.owned R (stand_count T), ← placed_is r, Y.size_is) (formed (an_estimate n) above r)
+-- 2 and 3 of a row that stands below those that are held
+module _ {t : Text} {above : List Row} {R : EstimateReader} (H : EstimateHolds t above R) where
+  pub full_law : (g : ℕ) → full_of g R ≡ full t g (length (of_group g above))
+  full_law g = rw H.text (sym (full_is H.n g above H.counts.owned R (stand_count H.tables)))
+
+  pub placed_law : {g : ℕ} (r : Row) → r.group ≡ g → placed_of g R.tally ≡ fitting t above r
+  placed_law r e = rw (← e, H.text) (sym (placed_is H.n above R H.counts r))
 
 -- there is room for one A row more
 pub room_a : (g : ℕ) (R : EstimateReader) → g ≡ group_a → full_of g R ≡ false → R.stand.count < 256

@@ -1,14 +1,12 @@
 -- What a reader of an estimate keeps of the rows above.
 -- Assumes nothing.
-use Rattle.std.specs.Prelude.{◌≡◌, Bool, true, false, List, map, ℕ, eqb, leb}
+use Rattle.std.specs.Prelude.{◌≡◌, Bool, true, List, map, ℕ, eqb, leb}
 use Rattle.sets.specs.Lists.{All, ◌&◌}
 use Rattle.klaim.specs.Limits.{tuple_limit}
 use Rattle.klaim.specs.Rows.{Row, group_b, group_a, group_e}
-use Rattle.klaim.specs.Reader.{Text, an_estimate, in_limits, of_group, own, in_order}
+use Rattle.klaim.specs.Reader.{Text, an_estimate, of_group, own, in_order}
 use Rattle.tables.specs.View.{tuples_of}
 use Rattle.stores.specs.Sets.{pairs_of, bounds_of}
-use Rattle.forms.specs.declared.rows.Row as Form
-use Rattle.forms.specs.Forms.{row_data}
 use Rattle.scan.specs.declared.Tally.{Tally}
 use Rattle.scan.specs.Tallies.{last_number}
 use Rattle.repeats.specs.Kept.{Kept, KeysAre}
@@ -42,9 +40,3 @@ full_of g r = eqb g group_a & leb tuple_limit r.stand.count
 -- 3, but for repeats: no foreign row, groups in order
 unfoldable pub placed_of : ℕ → Tally → Bool
 placed_of g t = leb group_b g & leb (last_number t.last) g
-
--- a row that 2 and the order let through
-pub record Passed (row : Form.Row) (r : EstimateReader) : Type 0 where
-  pub low : in_limits (row_data row) ≡ true
-  pub room : full_of (row_data row).group r ≡ false
-  pub placed : placed_of (row_data row).group r.tally ≡ true

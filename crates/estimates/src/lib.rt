@@ -1,22 +1,21 @@
 //! An estimate, read from its bytes.
 #![tactic(auto)]
 
-ghost use Rattle.std.specs.Prelude.{◌≡◌, true, List, [], ◌∷◌, ◌++◌, ◌<◌, eqb, leb, OnOk};
+ghost use Rattle.std.specs.Prelude.{◌≡◌, List, [], ◌∷◌, ◌++◌, ◌<◌, eqb, leb};
 ghost use Rattle.klaim.specs.Rows as Spec;
 ghost use Rattle.klaim.specs.Rows.{group_b, group_a};
-ghost use Rattle.klaim.specs.Reader.{Text, an_estimate, judge, in_limits, repeated, estimate_of, read_estimate};
+ghost use Rattle.klaim.specs.Reader.{Text, estimate_of, read_estimate};
 ghost use Rattle.klaim.specs.Refusals.{answer_of};
-ghost use Rattle.std.proofs.Math.Option.{some};
 ghost use Rattle.tables.specs.View.{estimate_view};
 ghost use Rattle.forms.specs.Forms.{group_number, row_data};
-ghost use Rattle.scan.specs.Reasons.{judged_by};
-ghost use Rattle.estimates.specs.Rows.{EstimateTables, EstimateHolds, Passed, full_of, placed_of};
+ghost use Rattle.scan.specs.Reasons.{Passed};
+ghost use Rattle.estimates.specs.Rows.{EstimateTables, EstimateHolds, full_of, placed_of};
 
 mod reading;
 
 use entries::NO_TUPLE;
 use forms::{Group, Row};
-use klaim::{Reason, Refusal};
+use klaim::Refusal;
 use reading::EstimateReader;
 use repeats::Keys;
 use scan::{Reader, Tally};
@@ -36,51 +35,9 @@ fn is_own(group: Group) -> bool
 }
 
 impl EstimateReader {
-    // Whether no row of this group may follow.
-    fn is_full(&self, group: Group) -> bool
-        ensures { result ≡ full_of (group_number group) self.now }
-    {
-        // `&` has no branch, so that the proof has one path.
-        is_tuples(group) & (TUPLES <= self.stand.count)
-    }
-
-    // Whether a row of this group may follow the rows above.
-    fn is_placed(&self, group: Group) -> bool
-        ensures { result ≡ placed_of (group_number group) self.now.tally }
-    {
-        is_own(group) & self.tally.in_order(group)
-    }
-
-    // Whether the row stands above.
-    fn is_seen(&self, row: &Row) -> bool
-        requires low { in_limits (row_data row.now) ≡ true }
-        requires placed { placed_of (row_data row.now).group self.now.tally ≡ true }
-        ensures { (t : Text) (above : List Spec.Row) → EstimateHolds t above self.now → result ≡ repeated above (row_data row.now) }
-    {
-        match row {
-            Row::B(bound) => repeats::bound_seen(&self.binds, bound),
-            Row::A(tuple) => repeats::tuple_seen(&self.keys, tuple),
-            Row::E(pair) => repeats::pair_seen(&self.hold, pair),
-            _ => false,
-        }
-    }
-
-    // Whether the row is let through.
-    fn admits(&self, row: &Row) -> Result<(), Reason>
-        ensures judged { (t : Text) (above : List Spec.Row) → EstimateHolds t above self.now → judge t above (some (row_data row.now)) ≡ judged_by result (row_data row.now) }
-        ensures passed { OnOk result (Passed row.now self.now) }
-    {
-        let group = row.group();
-        scan::early(row, self.is_full(group), self.is_placed(group))?;
-        if self.is_seen(row) {
-            return Err(Reason::Place);
-        }
-        scan::late(row, self.tally.size)
-    }
-
     // The row put into its table.
-    fn put(&mut self, row: &Row)
-        requires { Passed row.now self.old }
+    fn keep(&mut self, row: &Row)
+        requires { Passed (row_data row.now) (full_of (row_data row.now).group self.old) (placed_of (row_data row.now).group self.old.tally) }
         ensures tally_same { self.new.tally ≡ self.old.tally }
         ensures tables { (above : List Spec.Row) → EstimateTables above self.old → EstimateTables (above ++ (row_data row.now ∷ [])) self.new }
     {
@@ -110,12 +67,36 @@ impl EstimateReader {
 impl Reader for EstimateReader {
     ghost holds = { EstimateHolds };
 
-    fn take(&mut self, row: &Row) -> Result<(), Reason> {
-        self.admits(row)?;
-        self.put(row);
+    ghost full_at = { full_of };
+
+    ghost placed_at = { λ g r. placed_of g r.tally };
+
+    fn is_full(&self, group: Group) -> bool {
+        // `&` has no branch, so that the proof has one path.
+        is_tuples(group) & (TUPLES <= self.stand.count)
+    }
+
+    fn is_placed(&self, group: Group) -> bool {
+        is_own(group) & self.tally.in_order(group)
+    }
+
+    fn is_seen(&self, row: &Row) -> bool {
+        match row {
+            Row::B(bound) => repeats::bound_seen(&self.binds, bound),
+            Row::A(tuple) => repeats::tuple_seen(&self.keys, tuple),
+            Row::E(pair) => repeats::pair_seen(&self.hold, pair),
+            _ => false,
+        }
+    }
+
+    fn size(&self) -> u16 {
+        self.tally.size
+    }
+
+    fn put(&mut self, row: &Row) {
+        self.keep(row);
         // No lines stand in an estimate.
         self.tally.count(row, 0);
-        Ok(())
     }
 }
 

@@ -3,7 +3,6 @@
 use mathlib.Core.Path.{◌≡◌, refl, sym, ap, ap₂, subst, ◌∙◌}
 use mathlib.Core.Bool.{Bool, true, false, cond, false≢true}
 use mathlib.Core.List.{List, [], ◌∷◌, ◌++◌, map}
-use mathlib.Core.Option.{some}
 use Prim.Native.Nat.{ℕ, ◌+◌, ◌<◌, ◌≤◌}
 use native.Mathlib.Nat.{zero-add}
 use native.Mathlib.Omega.{arith}
@@ -14,7 +13,7 @@ use Rattle.sets.proofs.Lists.{and_l, and_r, imp_e, eqb_eq, leb_le, nleb_lt, All-
 use Rattle.sets.proofs.Tables.{length_table}
 use Rattle.klaim.specs.Limits.{site_limit, tuple_limit, thread_limit, line_limit}
 use Rattle.klaim.specs.Rows.{Row, row_line, group_n, group_r, group_d, group_t, group_l, group_q, group_a}
-use Rattle.klaim.specs.Reader.{a_net, in_limits, judge, key, repeated, of_group, present, full, headed, own, in_order, size_of, site_count, gather, pair_place, put_boxes, root_of, lines_of}
+use Rattle.klaim.specs.Reader.{Text, a_net, in_limits, key, repeated, of_group, present, full, headed, own, size_of, gather, pair_place, put_boxes, root_of, lines_of}
 use Rattle.klaim.proofs.Above.{group_other, map_other, map_own, last_snoc}
 use Rattle.tables.specs.View as View
 use Rattle.tables.specs.View.{Lines, Tuples, Roots, tuples_of, roots_of}
@@ -35,14 +34,13 @@ use Rattle.forms.specs.Forms.{group_number, sites_of, size_data, pair_data, box_
 use Rattle.judge.proofs.Limits.{size_low}
 use Rattle.scan.specs.declared.Tally.{Tally}
 use Rattle.scan.specs.Tallies.{last_number, counted_of}
-use Rattle.scan.specs.Reasons.{early_of, late_of, judging_of, judged_by}
-use Rattle.scan.proofs.Reasons.{formed}
+use Rattle.scan.specs.Reasons.{fitting, Passed}
 use Rattle.scan.proofs.Tallies.{group_none, counted_size, counted_last, counted_turn}
 use Rattle.repeats.specs.Kept.{Keys, KeysAre, unsaid_boxes}
 use Rattle.repeats.proofs.Keys.{keys_other}
 use Rattle.repeats.proofs.Rows.{as_kept}
 use Rattle.nets.specs.declared.reading.NetReader.{NetReader}
-use Rattle.nets.specs.Rows.{NetTables, NetTally, full_of, placed_of, Passed}
+use Rattle.nets.specs.Rows.{NetTables, NetTally, NetHolds, full_of, placed_of}
 
 -- no row of a foreign group is let through
 own_group : (g : ℕ) (t : Tally) → placed_of g t ≡ true → g ≤ 6
@@ -243,28 +241,20 @@ full_by g k a b c t l q s = at_t (eqb g group_t) refl
     at_t true e = let h : g ≡ group_t = eqb_eq e in rw (h, t h) (or_false (leb tuple_limit a))
     at_t false e = at_l (eqb g group_l) refl
 
-module _ (r : Row) {above : List Row} {R : NetReader} (T : NetTables above R) (Y : NetTally above R.tally) where
-  full_is : full a_net r.group (length (of_group r.group above)) ≡ full_of r.group R
+-- 2 and 3 of a row that stands below those that are held
+module _ {t : Text} {above : List Row} {R : NetReader} (H : NetHolds t above R) where
+  pub full_law : (g : ℕ) → full_of g R ≡ full t g (length (of_group g above))
   unfolding full_of
-  full_is = full_by r.group _ R.tuples.count R.roots.count R.lines.count
-      (λ e. ap (λ (g : ℕ). length (of_group g above)) e ∙ count_t T)
-      (λ e. ap (λ (g : ℕ). length (of_group g above)) e ∙ count_l T)
-      (λ e. ap (λ (g : ℕ). length (of_group g above)) e ∙ count_q T)
-      (λ e. ap (λ (g : ℕ). length (of_group g above)) e ∙ ap length (group_none a_net group_a above Y.owned foreign))
+  full_law g = rw H.text (sym (full_by g _ R.tuples.count R.roots.count R.lines.count
+      (λ e. ap (λ (k : ℕ). length (of_group k above)) e ∙ count_t H.tables)
+      (λ e. ap (λ (k : ℕ). length (of_group k above)) e ∙ count_l H.tables)
+      (λ e. ap (λ (k : ℕ). length (of_group k above)) e ∙ count_q H.tables)
+      (λ e. ap (λ (k : ℕ). length (of_group k above)) e ∙ ap length (group_none a_net group_a above H.counts.owned foreign))))
 
-  -- 3, but for repeats
-  placed_is : headed a_net above r & own a_net r.group & in_order above r ≡ placed_of r.group R.tally
+  -- N first and once, no foreign row, groups in order
+  pub placed_law : {g : ℕ} (r : Row) → r.group ≡ g → placed_of g R.tally ≡ fitting t above r
   unfolding headed own placed_of
-  placed_is = ap₂ (λ (b o : Bool). (imp b (eqb r.group group_n) & imp (eqb r.group group_n) b) & leb r.group group_q & o) Y.first (Y.order r)
-
-  -- "Each row top down: 1, 2, 3, 4, 7."
-  pub judged_is : judge a_net above (some r) ≡ judged_by (judging_of (early_of r (full_of r.group R) (placed_of r.group R.tally)) (repeated above r) (late_of R.tally.size r)) r
-  unfolding site_count
-  judged_is =
-      formed a_net above r
-      ∙ ap (λ (x : Bool). judged_by (judging_of (early_of r x (headed a_net above r & own a_net r.group & in_order above r)) (repeated above r) (late_of (size_of above) r)) r) full_is
-      ∙ ap (λ (x : Bool). judged_by (judging_of (early_of r (full_of r.group R) x) (repeated above r) (late_of (size_of above) r)) r) placed_is
-      ∙ ap (λ (n : ℕ). judged_by (judging_of (early_of r (full_of r.group R) (placed_of r.group R.tally)) (repeated above r) (late_of n r)) r) Y.size_is
+  placed_law r e = rw (← e, H.text) (sym (ap₂ (λ (b o : Bool). (imp b (eqb r.group group_n) & imp (eqb r.group group_n) b) & leb r.group group_q & o) H.counts.first (H.counts.order r)))
 
 some_group : (row : FormRow) → eqb (row_data row).group 0 ≡ false
 unfolding row_data size_data pair_data box_data tuple_data root_data process_data bound_data row_line
@@ -279,7 +269,7 @@ some_group (Form.A x) = refl
 some_group (Form.E x) = refl
 
 -- a row that is let through, in the tally
-pub tally_more : (row : FormRow) {R : NetReader} {above : List Row} → NetTables above R → NetTally above R.tally → Passed row R →
+pub tally_more : (row : FormRow) {R : NetReader} {above : List Row} → NetTables above R → NetTally above R.tally → Passed (row_data row) (full_of (row_data row).group R) (placed_of (row_data row).group R.tally) →
     NetTally (above ++ (row_data row ∷ [])) (counted_of row R.lines.count R.tally)
 unfolding placed_of
 tally_more row {R} {above} T Y P =

@@ -1,15 +1,13 @@
 -- What a reader of a net keeps of the rows above.
 -- Assumes nothing.
-use Rattle.std.specs.Prelude.{◌≡◌, Bool, true, false, cond, List, map, ℕ, eqb, leb, length}
+use Rattle.std.specs.Prelude.{◌≡◌, Bool, true, cond, List, map, ℕ, eqb, leb, length}
 use Rattle.sets.specs.Lists.{All, ◌&◌, imp, below, empty, same}
 use Rattle.klaim.specs.Limits.{tuple_limit, thread_limit, line_limit}
 use Rattle.klaim.specs.Rows.{Row, group_n, group_r, group_t, group_l, group_q}
-use Rattle.klaim.specs.Reader.{Text, a_net, in_limits, of_group, own, in_order, size_of, root_of, numbers_of, lines_of}
+use Rattle.klaim.specs.Reader.{Text, a_net, of_group, own, in_order, size_of, root_of, numbers_of, lines_of}
 use Rattle.tables.specs.View as View
 use Rattle.tables.specs.View.{tuples_of, roots_of}
 use Rattle.stores.specs.Sets.{pairs_of, boxes_of}
-use Rattle.forms.specs.declared.rows.Row as Form
-use Rattle.forms.specs.Forms.{row_data}
 use Rattle.scan.specs.declared.Tally.{Tally}
 use Rattle.scan.specs.Tallies.{last_number}
 use Rattle.repeats.specs.Kept.{Kept, KeysAre, unsaid_boxes}
@@ -49,9 +47,3 @@ full_of g r =
 -- 3, but for repeats: N first and once, no foreign row, groups in order
 unfoldable pub placed_of : ℕ → Tally → Bool
 placed_of g t = (imp (eqb (last_number t.last) 0) (eqb g group_n) & imp (eqb g group_n) (eqb (last_number t.last) 0)) & leb g group_q & leb (last_number t.last) g
-
--- a row that 2 and the order let through
-pub record Passed (row : Form.Row) (r : NetReader) : Type 0 where
-  pub low : in_limits (row_data row) ≡ true
-  pub room : full_of (row_data row).group r ≡ false
-  pub placed : placed_of (row_data row).group r.tally ≡ true

@@ -1,16 +1,15 @@
 //! A net, read from its bytes.
 #![tactic(auto)]
 
-ghost use Rattle.std.specs.Prelude.{◌≡◌, true, List, [], ◌∷◌, ◌++◌, ◌<◌, ◌≤◌, eqb, leb, length, OnOk};
+ghost use Rattle.std.specs.Prelude.{◌≡◌, List, [], ◌∷◌, ◌++◌, ◌<◌, ◌≤◌, eqb, leb, length};
 ghost use Rattle.klaim.specs.Rows as Spec;
 ghost use Rattle.klaim.specs.Rows.{group_n, group_q};
-ghost use Rattle.klaim.specs.Reader.{a_net, Text, judge, in_limits, repeated, whole_net, read_net};
+ghost use Rattle.klaim.specs.Reader.{a_net, Text, whole_net, read_net};
 ghost use Rattle.klaim.specs.Refusals.{answer_of};
-ghost use Rattle.std.proofs.Math.Option.{some};
 ghost use Rattle.forms.specs.Forms.{group_number, row_data};
 ghost use Rattle.tables.specs.View.{net_view};
-ghost use Rattle.scan.specs.Reasons.{judged_by};
-ghost use Rattle.nets.specs.Rows.{NetTables, NetHolds, full_of, placed_of, Passed};
+ghost use Rattle.scan.specs.Reasons.{Passed};
+ghost use Rattle.nets.specs.Rows.{NetTables, NetHolds, full_of, placed_of};
 ghost use Rattle.nets.specs.Defaults.{own_of, with_own, cleared};
 
 mod reading;
@@ -41,57 +40,9 @@ fn is_own(group: Group) -> bool
 }
 
 impl NetReader {
-    // Whether no row of this group may follow.
-    fn is_full(&self, group: Group) -> bool
-        ensures { result ≡ full_of (group_number group) self.now }
-    {
-        match group {
-            Group::T => TUPLES <= self.tuples.count,
-            Group::L => THREADS <= self.roots.count,
-            Group::Q => LINES <= self.lines.count,
-            _ => false,
-        }
-    }
-
-    // Whether a row of this group may follow the rows above: N stands first, and once.
-    fn is_placed(&self, group: Group) -> bool
-        ensures { result ≡ placed_of (group_number group) self.now.tally }
-    {
-        let headed = self.tally.last.is_none() == is_head(group);
-        headed & is_own(group) & self.tally.in_order(group)
-    }
-
-    // Whether the row stands above.
-    fn is_seen(&self, row: &Row) -> bool
-        requires low { in_limits (row_data row.now) ≡ true }
-        requires placed { placed_of (row_data row.now).group self.now.tally ≡ true }
-        ensures { (above : List Spec.Row) → NetHolds a_net above self.now → result ≡ repeated above (row_data row.now) }
-    {
-        match row {
-            Row::R(pair) => repeats::pair_seen(&self.homes, pair),
-            Row::D(sandbox) => repeats::box_seen(&self.boxes, sandbox),
-            Row::T(tuple) => repeats::tuple_seen(&self.keys, tuple),
-            Row::L(root) => repeats::root_seen(&self.roots, root),
-            _ => false,
-        }
-    }
-
-    // Whether the row is let through.
-    fn admits(&self, row: &Row) -> Result<(), Reason>
-        ensures judged { (above : List Spec.Row) → NetHolds a_net above self.now → judge a_net above (some (row_data row.now)) ≡ judged_by result (row_data row.now) }
-        ensures passed { OnOk result (Passed row.now self.now) }
-    {
-        let group = row.group();
-        scan::early(row, self.is_full(group), self.is_placed(group))?;
-        if self.is_seen(row) {
-            return Err(Reason::Place);
-        }
-        scan::late(row, self.tally.size)
-    }
-
     // The row put into its table.
-    fn put(&mut self, row: &Row)
-        requires { Passed row.now self.old }
+    fn keep(&mut self, row: &Row)
+        requires { Passed (row_data row.now) (full_of (row_data row.now).group self.old) (placed_of (row_data row.now).group self.old.tally) }
         ensures tally_same { self.new.tally ≡ self.old.tally }
         ensures tables { (above : List Spec.Row) → NetTables above self.old → NetTables (above ++ (row_data row.now ∷ [])) self.new }
     {
@@ -135,12 +86,43 @@ impl NetReader {
 impl Reader for NetReader {
     ghost holds = { NetHolds };
 
-    fn take(&mut self, row: &Row) -> Result<(), Reason> {
-        self.admits(row)?;
+    ghost full_at = { full_of };
+
+    ghost placed_at = { λ g r. placed_of g r.tally };
+
+    fn is_full(&self, group: Group) -> bool {
+        match group {
+            Group::T => TUPLES <= self.tuples.count,
+            Group::L => THREADS <= self.roots.count,
+            Group::Q => LINES <= self.lines.count,
+            _ => false,
+        }
+    }
+
+    // N stands first, and once.
+    fn is_placed(&self, group: Group) -> bool {
+        let headed = self.tally.last.is_none() == is_head(group);
+        headed & is_own(group) & self.tally.in_order(group)
+    }
+
+    fn is_seen(&self, row: &Row) -> bool {
+        match row {
+            Row::R(pair) => repeats::pair_seen(&self.homes, pair),
+            Row::D(sandbox) => repeats::box_seen(&self.boxes, sandbox),
+            Row::T(tuple) => repeats::tuple_seen(&self.keys, tuple),
+            Row::L(root) => repeats::root_seen(&self.roots, root),
+            _ => false,
+        }
+    }
+
+    fn size(&self) -> u16 {
+        self.tally.size
+    }
+
+    fn put(&mut self, row: &Row) {
         let lines = self.lines.count;
-        self.put(row);
+        self.keep(row);
         self.tally.count(row, lines);
-        Ok(())
     }
 }
 

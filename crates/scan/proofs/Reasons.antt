@@ -1,6 +1,6 @@
 -- The tests of a row in their order.
 -- Assumes nothing.
-use mathlib.Core.Path.{◌≡◌, refl, sym, ap, ap₂, ◌∙◌}
+use mathlib.Core.Path.{◌≡◌, refl, sym, ap, ◌∙◌}
 use Prim.Native.Nat.{ℕ}
 use mathlib.Core.Bool.{Bool, true, false, not, cond}
 use mathlib.Core.List.{List}
@@ -8,10 +8,10 @@ use mathlib.Core.Option.{some}
 use native.Mathlib.Omega.{arith}
 use lib.ListN.{length}
 use Rattle.std.specs.Prelude.{Ok, Err, OnOk}
-use Rattle.sets.specs.Lists.{◌&◌, either}
+use Rattle.sets.specs.Lists.{either}
 use Rattle.klaim.specs.Process.{template, clash}
 use Rattle.klaim.specs.Rows.{Row}
-use Rattle.klaim.specs.Reader.{Text, in_limits, of_group, full, over, headed, own, in_order, repeated, misplaced, site_count, absent, bad, good, judge}
+use Rattle.klaim.specs.Reader.{Text, in_limits, of_group, full, over, repeated, misplaced, site_count, absent, bad, good, judge}
 use Rattle.klaim.specs.Refusals.{number_of}
 use Rattle.klaim.specs.declared.Reason.{Reason}
 use Rattle.klaim.specs.declared.Reason.TheVariants.{Form, Limit, Place, Site, Turn, Naming, Clash, Free, Buffer, Thread, Tuple, Agreement, Arrival, Door, Right, Room, Newest, Occupied}
@@ -19,7 +19,7 @@ use Rattle.forms.specs.declared.rows.Group.{Group}
 use Rattle.forms.specs.declared.rows.Row as Form
 use Rattle.forms.specs.Forms.{group_number, group_of, row_data}
 use Rattle.forms.proofs.Groups.{group_is}
-use Rattle.scan.specs.Reasons.{Judging, limited_of, early_of, late_of, judging_of, judged_by}
+use Rattle.scan.specs.Reasons.{Judging, limited_of, early_of, fitting, Passed, late_of, judging_of, judged_by}
 
 -- the five tests of a row of good form
 by_tests : (limits full placed repeated absent clash : Bool) (r : Row) →
@@ -34,29 +34,37 @@ by_tests true false true false true clash r = refl
 by_tests true false true false false true r = refl
 by_tests true false true false false false r = refl
 
--- "Each row top down: 1, 2, 3, 4, 7."
-pub formed : (t : Text) (above : List Row) (r : Row) → judge t above (some r) ≡ judged_by (judging_of (early_of r (full t r.group (length (of_group r.group above))) (headed t above r & own t r.group & in_order above r)) (repeated above r) (late_of (site_count t above) r)) r
-unfolding judge over misplaced
-formed t above r = by_tests (in_limits r) (full t r.group (length (of_group r.group above))) (headed t above r & own t r.group & in_order above r) (repeated above r) (absent (site_count t above) r) (clash (template r.process)) r
+-- the code asks by the group of a row, the definitions by its number
+pub numbered : (row : Form.Row) {g : Group} → g ≡ group_of row → (row_data row).group ≡ group_number g
+numbered row e = group_is row ∙ ap group_number (sym e)
 
--- the code's tests ask by the group of a row, the definitions by its number
-pub early_is : (row : Form.Row) (full placed : ℕ → Bool) {g : Group} {f p : Bool} {j : Judging} →
-    g ≡ group_of row → f ≡ full (group_number g) → p ≡ placed (group_number g) → j ≡ early_of (row_data row) f p →
-    early_of (row_data row) (full (row_data row).group) (placed (row_data row).group) ≡ j
-early_is row full placed {g} {f} {p} {j} e a b h =
-    let q : (row_data row).group ≡ group_number g = group_is row ∙ ap group_number (sym e) in
-    ap₂ (early_of (row_data row)) (ap full q ∙ sym a) (ap placed q ∙ sym b) ∙ sym h
+-- "Each row top down: 1, 2, 3, 4, 7."
+module _ (t : Text) (above : List Row) (row : Form.Row) where
+  pub judged_is : {g : Group} {f p : Bool} {n : ℕ} → g ≡ group_of row → f ≡ full t (group_number g) (length (of_group (group_number g) above)) → p ≡ fitting t above (row_data row) → n ≡ site_count t above →
+      judge t above (some (row_data row)) ≡ judged_by (judging_of (early_of (row_data row) f p) (repeated above (row_data row)) (late_of n (row_data row))) (row_data row)
+  unfolding judge over misplaced
+  judged_is {g} {f} {p} {n} e a b s =
+      let r = row_data row in
+      let q : f ≡ full t r.group (length (of_group r.group above)) = a ∙ ap (λ (k : ℕ). full t k (length (of_group k above))) (sym (numbered row e)) in
+      rw (q, b, s) (by_tests (in_limits r) (full t r.group (length (of_group r.group above))) (fitting t above r) (repeated above r) (absent (site_count t above) r) (clash (template r.process)) r)
 
 -- what is known of a row that 2 and the order let through
-pub early_passed : (r : Row) {full placed : Bool} → early_of r full placed ≡ Ok tt → (in_limits r ≡ true) × (full ≡ false) × (placed ≡ true)
+pub early_passed : (r : Row) {full placed : Bool} → early_of r full placed ≡ Ok tt → Passed r full placed
 unfolding either
 early_passed r {full} {placed} e = go (in_limits r) refl full refl placed refl e
   where
-    go : (l : Bool) → in_limits r ≡ l → (f : Bool) → full ≡ f → (p : Bool) → placed ≡ p → ◌≡◌ {A = Judging} (limited_of l f p) (Ok tt) → (in_limits r ≡ true) × (full ≡ false) × (placed ≡ true)
+    go : (l : Bool) → in_limits r ≡ l → (f : Bool) → full ≡ f → (p : Bool) → placed ≡ p → ◌≡◌ {A = Judging} (limited_of l f p) (Ok tt) → Passed r full placed
     go false a f b p d e = cc
     go true a true b p d e = cc
     go true a false b false d e = cc
-    go true a false b true d e = (a, b, d)
+    go true a false b true d e = record { low = a; room = b; placed = d }
+
+-- the same, by what a table says of the row's group
+pub passed_by : (row : Form.Row) {g : Group} → g ≡ group_of row → (full placed : ℕ → Bool) {f p : Bool} → f ≡ full (group_number g) → p ≡ placed (group_number g) →
+    Passed (row_data row) f p → Passed (row_data row) (full (row_data row).group) (placed (row_data row).group)
+passed_by row e full placed a b P =
+    let q = numbered row e in
+    record { low = P.low; room = ap full q ∙ sym a ∙ P.room; placed = ap placed q ∙ sym b ∙ P.placed }
 
 -- what holds is so where a row is let through
 pub if_ok : {P : Type 0} (j : Judging) → P → OnOk j P

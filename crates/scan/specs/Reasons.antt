@@ -1,10 +1,10 @@
 -- Why a row is refused, if it is.
 -- Assumes nothing.
-use Rattle.std.specs.Prelude.{Bool, not, cond, ℕ, Result, Ok, Err}
-use Rattle.sets.specs.Lists.{either}
+use Rattle.std.specs.Prelude.{◌≡◌, Bool, true, false, not, cond, List, ℕ, Result, Ok, Err}
+use Rattle.sets.specs.Lists.{◌&◌, either}
 use Rattle.klaim.specs.Process.{template, clash}
 use Rattle.klaim.specs.Rows.{Row}
-use Rattle.klaim.specs.Reader.{in_limits, absent, Judged, bad, good}
+use Rattle.klaim.specs.Reader.{Text, in_limits, headed, own, in_order, absent, Judged, bad, good}
 use Rattle.klaim.specs.Refusals.{number_of}
 use Rattle.klaim.specs.declared.Reason.{Reason}
 use Rattle.klaim.specs.declared.Reason.TheVariants.{Limit, Place, Site, Clash}
@@ -20,6 +20,16 @@ limited_of low full placed = cond (either (not low) full) (Err Limit) (cond plac
 -- the same of a row
 abbrev pub early_of : Row → Bool → Bool → Judging
 early_of r full placed = limited_of (in_limits r) full placed
+
+-- 3, but for repeats: a net's first row N, no foreign row, groups in order
+abbrev pub fitting : Text → List Row → Row → Bool
+fitting t above r = headed t above r & own t r.group & in_order above r
+
+-- a row that 2 and the order let through
+pub record Passed (r : Row) (full fits : Bool) : Type 0 where
+  pub low : in_limits r ≡ true
+  pub room : full ≡ false
+  pub placed : fits ≡ true
 
 -- 4 and 7
 abbrev pub late_of : ℕ → Row → Judging

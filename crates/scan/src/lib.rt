@@ -1,15 +1,16 @@
 //! The rows of a text, one after the other: the row at a place, the tests of it that need no table, and a reader that takes them in.
 #![tactic(auto)]
 
-ghost use Rattle.std.specs.Prelude.{◌≡◌, List, [], ◌∷◌, ◌++◌, ◌+◌, ◌<◌, leb, length};
+ghost use Rattle.std.specs.Prelude.{◌≡◌, Bool, List, [], ◌∷◌, ◌++◌, ℕ, ◌+◌, ◌<◌, leb, length, OnOk};
+ghost use Rattle.std.proofs.Math.Option.{some};
 ghost use Rattle.sets.specs.Options.{option_of};
 ghost use Rattle.klaim.specs.Rows as Spec;
 ghost use Rattle.klaim.specs.Rows.{newline};
-ghost use Rattle.klaim.specs.Reader.{Text};
+ghost use Rattle.klaim.specs.Reader.{Text, of_group, full, repeated, site_count, judge};
 ghost use Rattle.text.specs.Pieces.{end_of};
 ghost use Rattle.forms.specs.Forms.{group_number, row_data};
 ghost use Rattle.scan.specs.Progress.{rows_left, Taken, RowsRead};
-ghost use Rattle.scan.specs.Reasons.{limited_of, early_of, late_of};
+ghost use Rattle.scan.specs.Reasons.{limited_of, early_of, late_of, judged_by, fitting, Passed};
 ghost use Rattle.scan.specs.Tallies.{last_number, counted_of, start_of};
 
 use forms::{Group, Row};
@@ -119,9 +120,57 @@ pub trait Reader {
     // It reads this text, and holds these rows of it.
     ghost holds: { Text → List Spec.Row → Self → Type 0 };
 
-    // The row taken in, or why it is refused.
-    fn take(&mut self, row: &Row) -> Result<(), Reason>
-        ensures { (t : Text) (above : List Spec.Row) → holds t above self.old → Taken t above row.now result (holds t (above ++ (row_data row.now ∷ [])) self.new) };
+    // What its tables say: no row of this group may follow.
+    ghost full_at: { ℕ → Self → Bool };
+
+    // What its tally says: a row of this group may follow.
+    ghost placed_at: { ℕ → Self → Bool };
+
+    // Whether no row of this group may follow.
+    fn is_full(&self, group: Group) -> bool
+        ensures told { result ≡ full_at (group_number group) self.now }
+        ensures meant { (t : Text) (above : List Spec.Row) → holds t above self.now → result ≡ full t (group_number group) (length (of_group (group_number group) above)) };
+
+    // Whether a row of this group may follow the rows above.
+    fn is_placed(&self, group: Group) -> bool
+        ensures told { result ≡ placed_at (group_number group) self.now }
+        ensures meant { (t : Text) (above : List Spec.Row) → holds t above self.now → (r : Spec.Row) → r.group ≡ group_number group → result ≡ fitting t above r };
+
+    // Whether the row stands above.
+    fn is_seen(&self, row: &Row) -> bool
+        requires { Passed (row_data row.now) (full_at (row_data row.now).group self.now) (placed_at (row_data row.now).group self.now) }
+        ensures { (t : Text) (above : List Spec.Row) → holds t above self.now → result ≡ repeated above (row_data row.now) };
+
+    // The n of the text.
+    fn size(&self) -> u16
+        ensures { (t : Text) (above : List Spec.Row) → holds t above self.now → result ≡ site_count t above };
+
+    // The row put into its table, and counted.
+    fn put(&mut self, row: &Row)
+        requires { Passed (row_data row.now) (full_at (row_data row.now).group self.old) (placed_at (row_data row.now).group self.old) }
+        ensures { (t : Text) (above : List Spec.Row) → holds t above self.old → holds t (above ++ (row_data row.now ∷ [])) self.new };
+}
+
+// Whether the row is let through.
+fn admits<R: Reader>(reader: &R, row: &Row) -> Result<(), Reason>
+    ensures judged { (t : Text) (above : List Spec.Row) → R.holds t above reader.now → judge t above (some (row_data row.now)) ≡ judged_by result (row_data row.now) }
+    ensures passed { OnOk result (Passed (row_data row.now) (R.full_at (row_data row.now).group reader.now) (R.placed_at (row_data row.now).group reader.now)) }
+{
+    let group = row.group();
+    early(row, reader.is_full(group), reader.is_placed(group))?;
+    if reader.is_seen(row) {
+        return Err(Reason::Place);
+    }
+    late(row, reader.size())
+}
+
+// The row taken in, or why it is refused.
+fn take<R: Reader>(reader: &mut R, row: &Row) -> Result<(), Reason>
+    ensures { (t : Text) (above : List Spec.Row) → R.holds t above reader.old → Taken t above row.now result (R.holds t (above ++ (row_data row.now ∷ [])) reader.new) }
+{
+    admits(reader, row)?;
+    reader.put(row);
+    Ok(())
 }
 
 // The rows of a text, taken in one after the other, up to the first that is refused.
@@ -140,7 +189,7 @@ pub fn read<R: Reader>(reader: &mut R, s: &[u8]) -> Result<(), Refusal>
                 row: count,
             });
         };
-        if let Err(why) = reader.take(&row) {
+        if let Err(why) = take(reader, &row) {
             return Err(Refusal { why, row: count });
         }
         at = next.end + 1;
