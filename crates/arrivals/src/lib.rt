@@ -14,12 +14,12 @@ ghost use Rattle.tables.specs.View.{lines_of};
 
 mod reading;
 
-use entries::{NO_LINE, NO_ROOT};
+use entries::{BLANK_LINE, BLANK_ROOT};
 use forms::{Group, Row};
 use klaim::Refusal;
 use reading::ArrivalReader;
 use scan::{Reader, Tally};
-use tables::{LINES, Lines, Roots};
+use tables::{LINES, Lines, Root, Roots};
 
 // Whether a group is that of an arrival's rows.
 fn is_own(group: Group) -> bool
@@ -35,7 +35,7 @@ impl ArrivalReader {
         ensures { ArrivalHolds (an_arrival n present) [] result }
     {
         ArrivalReader {
-            lines: Lines::empty(NO_LINE),
+            lines: Lines::empty(BLANK_LINE),
             tally: Tally::start(n),
             present,
         }
@@ -56,8 +56,8 @@ impl ArrivalReader {
     fn finish(&self) -> Result<Lines, Refusal>
         ensures { (t : Text) (rows : List Spec.Row) → ArrivalHolds t rows self.now → answer_of lines_of result ≡ whole (numbers_of rows) (lines_in rows) (0 ∷ []) (lines_in rows) }
     {
-        let mut root = Roots::empty(NO_ROOT);
-        root.push(NO_ROOT);
+        let mut root = Roots::empty(BLANK_ROOT);
+        root.push(Root { site: 0, line: 0 });
         whole::whole(self.tally.turn, &self.lines, &root)?;
         Ok(self.lines)
     }

@@ -17,26 +17,26 @@ use lines::{Acts, Line};
 use tables::{Action, Root, Tuple};
 use text::{Field, SiteName, Target};
 
-// What stands in the room of a table that has no entries yet.
-pub const NO_LINE: tables::Line = tables::Line {
+// What stands in a table where it has no entries: a line, a tuple and a root that are blank.
+pub const BLANK_LINE: tables::Line = tables::Line {
     action: Action::Nil,
 };
 
-pub const NO_TUPLE: Tuple = Tuple {
+pub const BLANK_TUPLE: Tuple = Tuple {
     site: 0,
     fields: Fields::One([0]),
 };
 
-pub const NO_ROOT: Root = Root { site: 0, line: 0 };
+pub const BLANK_ROOT: Root = Root { site: 0, line: 0 };
 
 // How many numbers a byte can hold.
-const BYTES: u16 = 256;
+const BYTE_LIMIT: u16 = 256;
 
 // A number as a byte: no number below its limit changes.
 fn byte(n: u16) -> u8
     ensures { result ≡ n % 256 }
 {
-    (n % BYTES) as u8
+    (n % BYTE_LIMIT) as u8
 }
 
 // A field of a tuple.

@@ -13,7 +13,7 @@ ghost use Rattle.estimates.specs.Rows.{EstimateTables, EstimateHolds, full_of, p
 
 mod reading;
 
-use entries::NO_TUPLE;
+use entries::BLANK_TUPLE;
 use forms::{Group, Row};
 use klaim::Refusal;
 use reading::EstimateReader;
@@ -107,7 +107,7 @@ pub fn read_estimate(n: u8, s: &[u8]) -> Result<Estimate, Refusal>
     // Made in its place, as a net's.
     let mut reader = EstimateReader {
         binds: [0; VARIABLES],
-        stand: Tuples::empty(NO_TUPLE),
+        stand: Tuples::empty(BLANK_TUPLE),
         keys: Keys::empty(0),
         hold: [0; HOMES],
         tally: Tally::start(n),

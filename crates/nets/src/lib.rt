@@ -14,7 +14,7 @@ ghost use Rattle.nets.specs.Defaults.{own_of, with_own, cleared};
 
 mod reading;
 
-use entries::{NO_LINE, NO_ROOT, NO_TUPLE};
+use entries::{BLANK_LINE, BLANK_ROOT, BLANK_TUPLE};
 use forms::{Group, Row};
 use klaim::{Reason, Refusal};
 use reading::NetReader;
@@ -169,10 +169,10 @@ pub fn read_net(s: &[u8]) -> Result<Net, Refusal>
     let mut reader = NetReader {
         homes: [0; HOMES],
         boxes: [UNSAID; BOXES],
-        tuples: Tuples::empty(NO_TUPLE),
+        tuples: Tuples::empty(BLANK_TUPLE),
         keys: Keys::empty(0),
-        roots: Roots::empty(NO_ROOT),
-        lines: Lines::empty(NO_LINE),
+        roots: Roots::empty(BLANK_ROOT),
+        lines: Lines::empty(BLANK_LINE),
         tally: Tally::start(0),
     };
     scan::read(&mut reader, s)?;
