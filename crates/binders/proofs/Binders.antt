@@ -20,7 +20,7 @@ use Rattle.text.specs.Fields.{loc, slot}
 use Rattle.lines.specs.declared.Acts.{Acts}
 use Rattle.lines.specs.declared.Line.{Line}
 use Rattle.lines.specs.declared.Line.TheVariants.{Nil, Par, Rep, Out, In, Read, Eval, Accept}
-use Rattle.lines.specs.Lines.{line_view}
+use Rattle.lines.specs.Lines.{acts_of, line_view}
 use Rattle.forms.specs.declared.rows.Process.{Process}
 use Rattle.forms.specs.declared.rows.Row.{Row}
 use Rattle.forms.specs.declared.rows.Row.TheVariants as Rows
@@ -76,11 +76,11 @@ clash_fields fs = any_bound _ fs (λ u. rw (count_cat u (concat used_in (map slo
 
 -- a line that is neither `in` nor `read`, and a row that is no Q row
 pub clash_none : (l : Line) → ((g : Acts Field) → l ≡ In g → ⊥) → ((g : Acts Field) → l ≡ Read g → ⊥) → false ≡ clash (template (line_view l))
-unfolding clash template line_view concat any
+unfolding clash template line_view acts_of concat any
 clash_none Nil i r = refl
 clash_none (Par a b) i r = refl
 clash_none (Rep a) i r = refl
-clash_none (Out a g fs) i r = refl
+clash_none (Out x) i r = refl
 clash_none (In g) i r = absurd (i g refl)
 clash_none (Read g) i r = absurd (r g refl)
 clash_none (Eval a g b k) i r = refl
