@@ -1,10 +1,14 @@
 -- A row by the number of its group.
 -- Assumes nothing.
 use mathlib.Core.Path.{◌≡◌, refl}
+use mathlib.Core.Logic.{◌⊎◌, inl, inr, ⊎_elim}
 use mathlib.Core.Bool.{true, false≢true}
+use Prim.Native.Nat.{ℕ}
 use native.Mathlib.Omega.{arith}
+use lib.Dec.{eqb, ltb}
 use Rattle.sets.specs.Lists.{either}
-use Rattle.klaim.specs.Rows.{row_line, group_d, group_l, group_b}
+use Rattle.sets.proofs.Lists.{eqb_eq, or_case}
+use Rattle.klaim.specs.Rows.{row_line, group_r, group_d, group_t, group_l, group_b, group_a, group_e}
 use Rattle.forms.specs.declared.rows.Pair.{Pair}
 use Rattle.forms.specs.declared.rows.Sandbox.{Sandbox}
 use Rattle.forms.specs.declared.rows.Tuple.{Tuple}
@@ -13,6 +17,39 @@ use Rattle.forms.specs.declared.rows.Bound.{Bound}
 use Rattle.forms.specs.declared.rows.Row.{Row}
 use Rattle.forms.specs.declared.rows.Row.TheVariants.{N, R, D, T, L, Q, B, A, E}
 use Rattle.forms.specs.Forms.{group_number, group_of, pair_group, tuple_group, size_data, pair_data, box_data, tuple_data, root_data, process_data, bound_data, row_data}
+
+-- the groups of pairs and of tuples
+pub pair_group_lem : (g : ℕ) → (g ≡ group_r) ⊎ (g ≡ group_e) → pair_group g ≡ true
+unfolding pair_group either
+pair_group_lem g (inl e) = rw e refl
+pair_group_lem g (inr e) = rw e refl
+
+pub tuple_group_lem : (g : ℕ) → (g ≡ group_t) ⊎ (g ≡ group_a) → tuple_group g ≡ true
+unfolding tuple_group either
+tuple_group_lem g (inl e) = rw e refl
+tuple_group_lem g (inr e) = rw e refl
+
+pub pair_case : (g : ℕ) → pair_group g ≡ true → (g ≡ group_r) ⊎ (g ≡ group_e)
+unfolding pair_group
+pair_case g h = go (or_case _ _ h)
+  where
+    go : (eqb g group_r ≡ true) ⊎ (eqb g group_e ≡ true) → (g ≡ group_r) ⊎ (g ≡ group_e)
+    go (inl e) = inl (eqb_eq e)
+    go (inr e) = inr (eqb_eq e)
+
+pub tuple_case : (g : ℕ) → tuple_group g ≡ true → (g ≡ group_t) ⊎ (g ≡ group_a)
+unfolding tuple_group
+tuple_case g h = go (or_case _ _ h)
+  where
+    go : (eqb g group_t ≡ true) ⊎ (eqb g group_a ≡ true) → (g ≡ group_t) ⊎ (g ≡ group_a)
+    go (inl e) = inl (eqb_eq e)
+    go (inr e) = inr (eqb_eq e)
+
+pub pair_some : (g : ℕ) → pair_group g ≡ true → ltb 0 g ≡ true
+pair_some g h = ⊎_elim (λ e. rw e) (λ e. rw e) (pair_case g h)
+
+pub tuple_some : (g : ℕ) → tuple_group g ≡ true → ltb 0 g ≡ true
+tuple_some g h = ⊎_elim (λ e. rw e) (λ e. rw e) (tuple_case g h)
 
 -- R and E rows
 pub as_pair : (r : Row) → pair_group (row_data r).group ≡ true → (p : Pair) × (row_data r ≡ pair_data (row_data r).group p)

@@ -3,7 +3,7 @@
 use mathlib.Core.Path.{◌≡◌, refl, sym, ap, ◌∙◌}
 use mathlib.Core.Bool.{false}
 use mathlib.Core.List.{List, [], ◌∷◌}
-use mathlib.Core.Option.{Option, none, some}
+use mathlib.Core.Option.{none}
 use Prim.Native.Nat.{ℕ, ◌≤◌, ◌<◌}
 use native.Mathlib.Omega.{arith}
 use lib.Dec.{eqb}
@@ -12,12 +12,7 @@ use borrow.Author.Tests.{ne_eqb}
 use Rattle.sets.specs.Lists.{◌&◌, same}
 use Rattle.sets.proofs.Lists.{and_false}
 use Rattle.klaim.specs.Rows.{split, comma, at, text, given, otherwise, group_r, group_t, group_a, group_e, row_n, row_pair, row_d, row_tuple, row_l, row_b, row_q, row_form, row_of}
-
--- a second reading that gives nothing
-otherwise_none : {A : Type 0} (o : Option A) → otherwise o none ≡ o
-unfolding otherwise
-otherwise_none none = refl
-otherwise_none (some x) = refl
+use Rattle.text.proofs.Fields.{otherwise_none}
 
 one_byte : (f : List ℕ) → 1 ≤ length f → length f < 2 → f ≡ get_or f 0 0 ∷ []
 one_byte [] h k = absurd (omega arith)

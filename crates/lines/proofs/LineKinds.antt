@@ -3,7 +3,7 @@
 use mathlib.Core.Path.{◌≡◌, refl, sym, ap, ◌∙◌}
 use mathlib.Core.Bool.{true, false}
 use mathlib.Core.List.{List, [], ◌∷◌}
-use mathlib.Core.Option.{Option, none, some}
+use mathlib.Core.Option.{none, some}
 use Prim.Native.Nat.{ℕ, ◌+◌, ◌<◌, ◌-◌}
 use native.Mathlib.Omega.{arith}
 use native.Mathlib.Decide.{ℕ_discrete}
@@ -16,6 +16,7 @@ use Rattle.sets.proofs.Lists.{same_eq}
 use Rattle.klaim.specs.declared.Loc.{Loc}
 use Rattle.klaim.specs.declared.Slot.{Slot}
 use Rattle.klaim.specs.Process.{Line, Nil, Par, Rep, Out, In, Read, Eval, Accept}
+use Rattle.text.proofs.Fields.{otherwise_none}
 use Rattle.lines.specs.Lines.{acts_form}
 use Rattle.klaim.specs.Rows.{at, text, given, otherwise, ◌>>=◌, number, loc_field, slot_field, line_nil, line_par, line_rep, line_out, line_get, line_eval, line_accept, line_form}
 
@@ -72,12 +73,6 @@ module _ (fs : List (List ℕ)) where
   pub accept_at : line_accept (drop 2 fs) ≡ given (eqb (length fs) 5) (number (at fs 3) >>= λ a. number (at fs 4) >>= λ k. some (Accept a k))
   unfolding line_accept
   accept_at = rw (behind 3 fs (omega arith), word 1, word 2) refl
-
--- a second reading that gives nothing
-otherwise_none : {A : Type 0} (o : Option A) → otherwise o none ≡ o
-unfolding otherwise
-otherwise_none none = refl
-otherwise_none (some x) = refl
 
 -- the form of a line, by its word
 module _ (fs : List (List ℕ)) (w : List ℕ) (W : w ≡ at fs 2) where

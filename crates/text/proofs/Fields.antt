@@ -1,6 +1,6 @@
 -- Laws of what a field says.
 -- Assumes nothing.
-use mathlib.Core.Path.{◌≡◌, refl, sym, ◌∙◌}
+use mathlib.Core.Path.{◌≡◌, refl, sym, ap, ◌∙◌}
 use mathlib.Core.Bool.{Bool, true, false, not, ◌&&◌, false≢true}
 use mathlib.Core.List.{List, [], ◌∷◌}
 use mathlib.Core.Option.{Option, none, some}
@@ -17,7 +17,7 @@ use Rattle.std.specs.Prelude.{None, Some}
 use Rattle.sets.specs.Options.{option_of}
 use Rattle.sets.specs.Lists.{◌&◌, either, all, same}
 use Rattle.sets.proofs.Lists.{and_l, and_r, and_false}
-use Rattle.klaim.specs.Rows.{given, digit, decimal, number, lettered, bind_field, var_field, ◌>>=◌}
+use Rattle.klaim.specs.Rows.{given, otherwise, digit, decimal, number, lettered, bind_field, var_field, ◌>>=◌}
 use Rattle.text.specs.Fields.{shape_of, digit_field, bind}
 
 -- the two tests of lists for equality
@@ -31,6 +31,33 @@ same_is (x ∷ a) (y ∷ b) = go (eqb x y) (same_is a b)
     go : (t : Bool) {p q : Bool} → p ≡ q → (t && p) ≡ (t & q)
     go true e = e
     go false e = refl
+
+-- tests of two lists for equality
+pub same_long : (a b : List ℕ) → (length a ≡ length b → ⊥) → same a b ≡ false
+unfolding same
+same_long [] [] h = absurd (h refl)
+same_long [] (y ∷ b) h = refl
+same_long (x ∷ a) [] h = refl
+same_long (x ∷ a) (y ∷ b) h = rw (same_long a b (λ q. h (ap suc q))) (and_false (eqb x y))
+
+module _ (a b : List ℕ) (i : ℕ) where
+  pub same_next : i < length a → i < length b → get_or a i 0 ≡ get_or b i 0 → same (drop i a) (drop i b) ≡ same (drop (i + 1) a) (drop (i + 1) b)
+  unfolding same ◌&◌
+  same_next h k e = rw (add-one i, drop-cons a i 0 h, drop-cons b i 0 k, eq-eqb _ _ e)
+
+  pub same_stop : i < length a → i < length b → (get_or a i 0 ≡ get_or b i 0 → ⊥) → same (drop i a) (drop i b) ≡ false
+  unfolding same ◌&◌
+  same_stop h k e = rw (drop-cons a i 0 h, drop-cons b i 0 k, ne_eqb _ _ e)
+
+  pub same_end : length a ≤ i → length b ≤ i → same (drop i a) (drop i b) ≡ true
+  unfolding same
+  same_end h k = rw (drop_of_length-le a h, drop_of_length-le b k)
+
+-- a second reading that gives nothing
+pub otherwise_none : {A : Type 0} (x : Option A) → otherwise x none ≡ x
+unfolding otherwise
+otherwise_none none = refl
+otherwise_none (some a) = refl
 
 -- a number by its shape and its digits
 number_by : (a b d e : Bool) (o : Option ℕ) → (a & b & e ≡ false) → given (a & b & d & e) o ≡ none
@@ -121,9 +148,9 @@ pub shape_more : (f : List ℕ) → 2 ≤ length f → leb (length f) 3 & not (e
 unfolding shape_of either ◌&◌
 shape_more f h = rw (le-leb 1 (length f) (omega arith), ne_eqb (length f) 1 (λ e. omega arith)) refl
 
-pub shape_short : (f : List ℕ) → shape_of f ≡ true → length f ≤ 3
+pub shape_short : (f : List ℕ) → shape_of f ≡ true → (1 ≤ length f) × (length f ≤ 3)
 unfolding shape_of
-shape_short f h = leb-true _ _ (and_l _ _ (and_r _ _ h))
+shape_short f h = (leb-true _ _ (and_l _ _ h), leb-true _ _ (and_l _ _ (and_r _ _ h)))
 
 -- a field by its first byte
 pub letter_hit : (x : ℕ) (f : List ℕ) → 0 < length f → get_or f 0 0 ≡ x → lettered x f ≡ number (take (length f - 1) (drop 1 f))

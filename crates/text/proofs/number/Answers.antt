@@ -7,7 +7,7 @@ pub returns-then-not-shaped : goal.returns-then-not-shaped
 returns-then-not-shaped c = sym (number_shape _ (sym c.if-not-shaped.ensures))
 
 pub overflow_mul-n : goal.overflow_mul-n
-overflow_mul-n c = omega (arith, shape_short _ (sym c.if-not-shaped.ensures))
+overflow_mul-n c = omega (arith, (shape_short _ (sym c.if-not-shaped.ensures)).1)
 
 pub returns-in_err-n : goal.returns-in_err-n
 returns-in_err-n c =
@@ -15,7 +15,7 @@ returns-in_err-n c =
     rw c.from_residual.ensures e
 
 pub overflow_add-n : goal.overflow_add-n
-overflow_add-n c = omega (arith, c.in_ok-n.ensures.low, shape_short _ (sym c.if-not-shaped.ensures))
+overflow_add-n c = omega (arith, c.in_ok-n.ensures.low, (shape_short _ (sym c.if-not-shaped.ensures)).1)
 
 pub loop-b-preserved : goal.loop-b-preserved
 loop-b-preserved c =
