@@ -45,23 +45,32 @@ same_snoc (a ∷ []) [] x y = and_false (eqb a y)
 same_snoc (a ∷ c ∷ xs) [] x y = and_false (eqb a y)
 same_snoc (a ∷ xs) (b ∷ ys) x y = ap (λ (t : Bool). eqb a b & t) (same_snoc xs ys x y) ∙ sym (and_assoc (eqb a b) (same xs ys) (eqb x y))
 
+-- Q rows in turn, with one row more
+module _ (above : List Row) (r : Row) (n : ℕ) where
+  pub turn_own : r.group ≡ group_q → same (numbers_of (above ++ (r ∷ []))) (below (n + 1)) ≡ same (numbers_of above) (below n) & eqb (nth r.lines 0) n
+  unfolding numbers_of
+  turn_own e = rw (map_own (λ r. nth r.lines 0) group_q above r (eq-eqb r.group group_q e), below_snoc n) (same_snoc (numbers_of above) (below n) (nth r.lines 0) n)
+
+  pub turn_other : eqb r.group group_q ≡ false → same (numbers_of (above ++ (r ∷ []))) (below n) ≡ same (numbers_of above) (below n)
+  unfolding numbers_of
+  turn_other e = rw (map_other (λ r. nth r.lines 0) group_q above r e)
+
 -- Q rows in turn, by the lines above
 abbrev pub in_turn : List Row → Bool
 in_turn above = same (numbers_of above) (below (length (lines_of above)))
 
 module _ (above : List Row) (r : Row) where
-  turn_own : r.group ≡ group_q → in_turn (above ++ (r ∷ [])) ≡ in_turn above & eqb (nth r.lines 0) (length (lines_of above))
-  unfolding numbers_of lines_of
-  turn_own e =
-      let q = eq-eqb r.group group_q e in
+  in_turn_own : r.group ≡ group_q → in_turn (above ++ (r ∷ [])) ≡ in_turn above & eqb (nth r.lines 0) (length (lines_of above))
+  unfolding lines_of
+  in_turn_own e =
       let n = length (lines_of above) in
-      let many : length (lines_of (above ++ (r ∷ []))) ≡ n + 1 = ap length (map_own (λ r. r.process) group_q above r q)
+      let many : length (lines_of (above ++ (r ∷ []))) ≡ n + 1 = ap length (map_own (λ r. r.process) group_q above r (eq-eqb r.group group_q e))
       ∙ length-append (lines_of above) (r.process ∷ []) in
-      rw (many, map_own (λ r. nth r.lines 0) group_q above r q, below_snoc n) (same_snoc (numbers_of above) (below n) (nth r.lines 0) n)
+      rw many (turn_own above r n e)
 
-  turn_other : eqb r.group group_q ≡ false → in_turn (above ++ (r ∷ [])) ≡ in_turn above
-  unfolding numbers_of lines_of
-  turn_other e = rw (map_other (λ r. nth r.lines 0) group_q above r e, map_other (λ r. r.process) group_q above r e)
+  in_turn_other : eqb r.group group_q ≡ false → in_turn (above ++ (r ∷ [])) ≡ in_turn above
+  unfolding lines_of
+  in_turn_other e = rw (map_other (λ r. r.process) group_q above r e) (turn_other above r (length (lines_of above)) e)
 
 -- no row of a foreign group stands above
 pub group_none : (t : Text) (g : ℕ) (above : List Row) → All (λ r. own t r.group ≡ true) above → own t g ≡ false → of_group g above ≡ []
@@ -123,15 +132,15 @@ counted_last (E x) n t = refl
 pub counted_turn : (above : List Row) (r : Form.Row) (t : Tally) → in_turn above ≡ t.turn →
     in_turn (above ++ (row_data r ∷ [])) ≡ (counted_of r (length (lines_of above)) t).turn
 unfolding row_data size_data pair_data box_data tuple_data root_data process_data bound_data row_line
-counted_turn above (N x) t e = turn_other above (size_data x) refl ∙ e
-counted_turn above (R x) t e = turn_other above (pair_data group_r x) refl ∙ e
-counted_turn above (D x) t e = turn_other above (box_data x) refl ∙ e
-counted_turn above (T x) t e = turn_other above (tuple_data group_t x) refl ∙ e
-counted_turn above (L x) t e = turn_other above (root_data x) refl ∙ e
-counted_turn above (Q x) t e = turn_own above (process_data x) refl ∙ ap (λ (b : Bool). b & eqb x.number (length (lines_of above))) e
-counted_turn above (B x) t e = turn_other above (bound_data x) refl ∙ e
-counted_turn above (A x) t e = turn_other above (tuple_data group_a x) refl ∙ e
-counted_turn above (E x) t e = turn_other above (pair_data group_e x) refl ∙ e
+counted_turn above (N x) t e = in_turn_other above (size_data x) refl ∙ e
+counted_turn above (R x) t e = in_turn_other above (pair_data group_r x) refl ∙ e
+counted_turn above (D x) t e = in_turn_other above (box_data x) refl ∙ e
+counted_turn above (T x) t e = in_turn_other above (tuple_data group_t x) refl ∙ e
+counted_turn above (L x) t e = in_turn_other above (root_data x) refl ∙ e
+counted_turn above (Q x) t e = in_turn_own above (process_data x) refl ∙ ap (λ (b : Bool). b & eqb x.number (length (lines_of above))) e
+counted_turn above (B x) t e = in_turn_other above (bound_data x) refl ∙ e
+counted_turn above (A x) t e = in_turn_other above (tuple_data group_a x) refl ∙ e
+counted_turn above (E x) t e = in_turn_other above (pair_data group_e x) refl ∙ e
 
 -- whether a row stands above, by the last group
 pub no_last : (o : Option Group) (b : Bool) → is_some o ≡ not b → b ≡ eqb (last_number o) 0

@@ -7,17 +7,15 @@ use Rattle.klaim.specs.Reader.{refused, gives, bad, good, Text, judge, scan, rea
 use Rattle.klaim.specs.Refusals.{number_of}
 use Rattle.klaim.specs.declared.Reason.{Reason}
 use Rattle.klaim.specs.declared.Refusal.{Refusal}
-use Rattle.forms.specs.declared.rows.Row as Form
-use Rattle.forms.specs.Forms.{row_data}
 
 -- the rows that begin at byte `at` or behind it
 abbrev pub rows_left : List ℕ → ℕ → List (Option Row)
 rows_left bytes at = rows_from (split newline (drop at bytes))
 
--- a row below those above is let through, and then this holds; or it is refused
-abbrev pub Taken : Text → List Row → Form.Row → Result (Unit {0}) Reason → Type 0 → Type 0
-Taken t above row (Ok x) then = (judge t above (some (row_data row)) ≡ good (row_data row)) × then
-Taken t above row (Err why) then = judge t above (some (row_data row)) ≡ bad (number_of why)
+-- what stands below the rows above is a row that is let through, and then this holds of it; or it is refused
+abbrev pub Taken : Text → List Row → Option Row → Result (Unit {0}) Reason → (Row → Type 0) → Type 0
+Taken t above o (Ok x) then = (r : Row) × (o ≡ some r) × (judge t above o ≡ good r) × then r
+Taken t above o (Err why) then = judge t above o ≡ bad (number_of why)
 
 -- a text is read up to byte `at`: the rows above have the property P, and none of them is refused
 pub record Progress (t : Text) (P : List Row → Type 0) (bytes : List ℕ) (at count : ℕ) : Type 0 where

@@ -1,13 +1,14 @@
 -- Why a row is refused, if it is.
 -- Assumes nothing.
 use Rattle.std.specs.Prelude.{◌≡◌, Bool, true, false, not, cond, List, ℕ, Result, Ok, Err}
+use Rattle.std.proofs.Math.Option.{Option, none, some}
 use Rattle.sets.specs.Lists.{◌&◌, either}
 use Rattle.klaim.specs.Process.{template, clash}
 use Rattle.klaim.specs.Rows.{Row}
 use Rattle.klaim.specs.Reader.{Text, in_limits, headed, own, in_order, absent, Judged, bad, good}
 use Rattle.klaim.specs.Refusals.{number_of}
 use Rattle.klaim.specs.declared.Reason.{Reason}
-use Rattle.klaim.specs.declared.Reason.TheVariants.{Limit, Place, Site, Clash}
+use Rattle.klaim.specs.declared.Reason.TheVariants.{Form, Limit, Place, Site, Clash}
 
 -- let through, or refused
 abbrev pub Judging : Type 0
@@ -17,9 +18,10 @@ Judging = Result (Unit {0}) Reason
 abbrev pub limited_of : Bool → Bool → Bool → Judging
 limited_of low full placed = cond (either (not low) full) (Err Limit) (cond placed (Ok tt) (Err Place))
 
--- the same of a row
-abbrev pub early_of : Row → Bool → Bool → Judging
-early_of r full placed = limited_of (in_limits r) full placed
+-- 1, and the same of a row that has a form
+abbrev pub early_of : Option Row → Bool → Bool → Judging
+early_of none full placed = Err Form
+early_of (some r) full placed = limited_of (in_limits r) full placed
 
 -- 3, but for repeats: a net's first row N, no foreign row, groups in order
 abbrev pub fitting : Text → List Row → Row → Bool

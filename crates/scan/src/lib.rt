@@ -1,7 +1,7 @@
 //! The rows of a text, one after the other: the row at a place, the tests of it that need no table, and a reader that takes them in.
 #![tactic(auto)]
 
-ghost use Rattle.std.specs.Prelude.{◌≡◌, Bool, List, [], ◌∷◌, ◌++◌, ℕ, ◌+◌, ◌<◌, leb, length, OnOk};
+ghost use Rattle.std.specs.Prelude.{◌≡◌, Bool, List, [], ◌∷◌, ◌++◌, ℕ, ◌+◌, ◌<◌, leb, length, OnOk, option_copied};
 ghost use Rattle.std.proofs.Math.Option.{some};
 ghost use Rattle.sets.specs.Options.{option_of};
 ghost use Rattle.klaim.specs.Rows as Spec;
@@ -95,10 +95,13 @@ fn limited(low: bool, full: bool, placed: bool) -> Result<(), Reason>
     Ok(())
 }
 
-// Limits and place: 2 and 3.
-pub fn early(row: &Row, full: bool, placed: bool) -> Result<(), Reason>
-    ensures { result ≡ early_of (row_data row.now) full placed }
+// Form, limits and place: 1, 2 and 3.
+pub fn early(row: Option<&Row>, full: bool, placed: bool) -> Result<(), Reason>
+    ensures { result ≡ early_of (option_of row_data (option_copied row.entry)) full placed }
 {
+    let Some(row) = row else {
+        return Err(Reason::Form);
+    };
     limited(judge::in_limits(row), full, placed)
 }
 
@@ -151,13 +154,13 @@ pub trait Reader {
         ensures { (t : Text) (above : List Spec.Row) → holds t above self.old → holds t (above ++ (row_data row.now ∷ [])) self.new };
 }
 
-// Whether the row is let through.
+// Whether a row that has a form is let through.
 fn admits<R: Reader>(reader: &R, row: &Row) -> Result<(), Reason>
     ensures judged { (t : Text) (above : List Spec.Row) → R.holds t above reader.now → judge t above (some (row_data row.now)) ≡ judged_by result (row_data row.now) }
     ensures passed { OnOk result (Passed (row_data row.now) (R.full_at (row_data row.now).group reader.now) (R.placed_at (row_data row.now).group reader.now)) }
 {
     let group = row.group();
-    early(row, reader.is_full(group), reader.is_placed(group))?;
+    early(Some(row), reader.is_full(group), reader.is_placed(group))?;
     if reader.is_seen(row) {
         return Err(Reason::Place);
     }
@@ -165,9 +168,12 @@ fn admits<R: Reader>(reader: &R, row: &Row) -> Result<(), Reason>
 }
 
 // The row taken in, or why it is refused.
-fn take<R: Reader>(reader: &mut R, row: &Row) -> Result<(), Reason>
-    ensures { (t : Text) (above : List Spec.Row) → R.holds t above reader.old → Taken t above row.now result (R.holds t (above ++ (row_data row.now ∷ [])) reader.new) }
+fn take<R: Reader>(reader: &mut R, row: Option<&Row>) -> Result<(), Reason>
+    ensures { (t : Text) (above : List Spec.Row) → R.holds t above reader.old → Taken t above (option_of row_data (option_copied row.entry)) result (λ r. R.holds t (above ++ (r ∷ [])) reader.new) }
 {
+    let Some(row) = row else {
+        return early(None, false, false);
+    };
     admits(reader, row)?;
     reader.put(row);
     Ok(())
@@ -183,13 +189,7 @@ pub fn read<R: Reader>(reader: &mut R, s: &[u8]) -> Result<(), Refusal>
     while at < s.len() {
         let next = row_at(s, at);
         count += 1;
-        let Some(row) = next.row else {
-            return Err(Refusal {
-                why: Reason::Form,
-                row: count,
-            });
-        };
-        if let Err(why) = take(reader, &row) {
+        if let Err(why) = take(reader, next.row.as_ref()) {
             return Err(Refusal { why, row: count });
         }
         at = next.end + 1;

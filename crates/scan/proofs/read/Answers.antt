@@ -1,19 +1,15 @@
 use native.Mathlib.Omega.{arith}
-use Rattle.scan.proofs.Progress.{progress_none, progress_more, progress_bad, progress_end, row_within, no_form}
+use Rattle.scan.proofs.Progress.{progress_none, progress_more, progress_bad, progress_end, row_within}
 use Rattle.scan.proofs.read.Goals as goal
 
 pub loop-at-init : goal.loop-at-init
 loop-at-init g c = (omega arith, λ t h. progress_none t c.args.s.now h)
 
-pub returns-in_default : goal.returns-in_default
-returns-in_default g c = λ t h.
-    let R = c.loop-at.invariant.1 t h in
-    progress_bad R _ _ (rw c.in_default.is at c.row_at-next.ensures.at_value) _ (no_form t R.above)
-
 pub returns-in-Err : goal.returns-in-Err
 returns-in-Err g c = λ t h.
     let R = c.loop-at.invariant.1 t h in
-    progress_bad R _ _ (rw c.in-Some.is at c.row_at-next.ensures.at_value) _ (rw c.in-Err.is at c.take.ensures t R.above R.held)
+    let taken = rw c.as_ref.ensures.value at c.take.ensures t R.above R.held in
+    progress_bad R _ _ c.row_at-next.ensures.at_value _ (rw c.in-Err.is at taken)
 
 pub overflow_add-at : goal.overflow_add-at
 overflow_add-at g c =
@@ -25,7 +21,8 @@ loop-at-preserved g c = (
   omega (arith, c.row_at-next.ensures.end_value, c.loop-at.invariant.0),
   λ t h.
       let R = c.loop-at.invariant.1 t h in
-      progress_more R _ _ (rw c.in-Some.is at c.row_at-next.ensures.at_value) _ (rw c.in_default-take.is at c.take.ensures t R.above R.held),
+      let taken = rw (c.as_ref.ensures.value, c.in_default.is) at c.take.ensures t R.above R.held in
+      progress_more R _ _ c.row_at-next.ensures.at_value taken.0 (taken.2, taken.3),
 )
 
 pub returns : goal.returns
