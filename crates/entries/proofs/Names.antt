@@ -1,7 +1,7 @@
 -- Numbers within their limits: none of such a line or tuple changes where it becomes a byte.
 -- Assumes nothing.
 use mathlib.Core.Path.{◌≡◌, refl, sym, ap, ◌∙◌}
-use mathlib.Core.Bool.{true}
+use mathlib.Core.Bool.{Bool, true}
 use mathlib.Core.List.{List, [], ◌∷◌, map}
 use Prim.Native.Nat.{ℕ, ◌%◌, ◌<◌}
 use native.Mathlib.Omega.{arith}
@@ -148,6 +148,13 @@ action_low (Actions.Accept a k) L = and_l _ _ L.boxes
 pub twice : {A B C : Type 0} (f : A → B) (g : B → C) (xs : List A) → map (λ x. g (f x)) xs ≡ map g (map f xs)
 twice f g [] = refl
 twice f g (x ∷ xs) = ap (λ ys. g (f x) ∷ ys) (twice f g xs)
+
+-- codes of names that keep to p and q, read by g
+module _ {A B C : Type 0} (g : C → B) (value : A → B) (code : A → C) (p q : A → Bool) (same : (m : A) → p m ≡ true → q m ≡ true → g (code m) ≡ value m) where
+  pub map_same : (ms : List A) → all p ms ≡ true → all q ms ≡ true → map g (map code ms) ≡ map value ms
+  unfolding all
+  map_same [] a b = refl
+  map_same (m ∷ ms) a b = rw (same m (and_l _ _ a) (and_l _ _ b), map_same ms (and_r _ _ a) (and_r _ _ b))
 
 -- a tuple
 pub tuple_same : (t : Tuple) → Low (sites_of t) → t.site % 256 ∷ map (λ (s : SiteName). s.0 % 256) (items t.fields) ≡ sites_of t

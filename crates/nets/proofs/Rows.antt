@@ -3,11 +3,12 @@
 use mathlib.Core.Path.{◌≡◌, refl, sym, ap, ap₂, subst, ◌∙◌}
 use mathlib.Core.Bool.{Bool, true, false, cond, false≢true}
 use mathlib.Core.List.{List, [], ◌∷◌, ◌++◌, map}
-use Prim.Native.Nat.{ℕ, ◌+◌, ◌<◌, ◌≤◌}
+use Prim.Native.Nat.{ℕ, suc, ◌+◌, ◌<◌, ◌≤◌}
 use native.Mathlib.Nat.{zero-add}
 use native.Mathlib.Omega.{arith}
 use lib.Dec.{eqb, leb}
 use lib.ListN.{length, length-map}
+use borrow.Author.Tests.{ne_eqb}
 use Rattle.sets.specs.Lists.{done, more, ◌&◌, either, imp, any, empty, same}
 use Rattle.sets.proofs.Lists.{and_l, and_r, imp_e, eqb_eq, leb_le, nleb_lt, All-append, or_false}
 use Rattle.sets.proofs.Tables.{length_table}
@@ -178,6 +179,11 @@ recounted T = record { homes_is = T.homes_is; boxes_is = T.boxes_is; tuples_is =
 foreign : own a_net group_a ≡ false
 unfolding own
 foreign = refl
+
+pub empty_is : (above : List Row) → empty above ≡ eqb (length above) 0
+unfolding empty
+empty_is [] = refl
+empty_is (r ∷ above) = sym (ne_eqb (suc (length above)) 0 (λ e. omega arith))
 
 some_above : (above : List Row) (r : Row) → empty (above ++ (r ∷ [])) ≡ false
 unfolding empty

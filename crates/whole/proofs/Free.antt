@@ -3,8 +3,10 @@
 use mathlib.Core.Path.{◌≡◌, refl, sym, ap, ap₂, ◌∙◌}
 use mathlib.Core.Bool.{Bool, not, false≢true}
 use mathlib.Core.List.{List, [], ◌∷◌, ◌++◌, map}
-use Prim.Native.Nat.{ℕ, ◌+◌, ◌^◌, ◌<◌}
-use lib.ListN.{length, get_or, take}
+use Prim.Native.Nat.{ℕ, suc, ◌+◌, ◌^◌, ◌<◌, ◌≤◌}
+use native.Mathlib.Omega.{arith}
+use lib.ListN.{length, get_or, take, drop, length-take, drop_of_length-le}
+use lib.Seq.{drop-cons, get_or-take}
 use Rattle.std.proofs.lemmas.List.{take_more}
 use lib.Dec.{eqb}
 use borrow.Author.Tests.{ne_eqb}
@@ -85,6 +87,17 @@ module _ (f : Slot → List ℕ) (xs : List Slot) (j : ℕ) (h : j < length xs) 
 
   pub field_none : {s : Slot} → get_or xs j d ≡ s → mask_of (f s) ≡ 0 → mask_of (concat f (take j xs)) ≡ mask_of (concat f (take (j + 1) xs))
   field_none e n = sym (join_none_r _) ∙ field_adds e (sym n)
+
+-- sets gathered from the last to the first
+pub joins_end : (f : ℕ → ℕ) (xs : List ℕ) (k : ℕ) → 0 ≡ joins f (drop k (take k xs))
+unfolding joins
+joins_end f xs k = sym (ap (joins f) (drop_of_length-le (take k xs) {i = k} (omega (arith, length-take k xs))))
+
+pub joins_down : (f : ℕ → ℕ) (xs : List ℕ) (k j i : ℕ) {r : ℕ} → k ≤ length xs → j < k → suc j ≡ i → r ≡ joins f (drop i (take k xs)) → join (f (get_or xs j 0)) r ≡ joins f (drop j (take k xs))
+unfolding joins
+joins_down f xs k j i h l e g =
+    ap₂ join (ap f (sym (get_or-take k xs j 0 l))) (g ∙ ap (λ (i : ℕ). joins f (drop i (take k xs))) (sym e))
+    ∙ sym (ap (joins f) (drop-cons (take k xs) j 0 (omega (arith, length-take k xs))))
 
 -- the variables of each sort of field
 pub value_bound : (x : Loc) → mask_of (bound_in (Value x)) ≡ 0
