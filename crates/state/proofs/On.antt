@@ -15,6 +15,7 @@ pub fits_on : (st : State) (tuples : Tuples) (threads : Threads) (told : Prelude
     Fits st → Invariant (state_view (gone_on st tuples threads told)) → Fits (gone_on st tuples threads told)
 unfolding state_view sound_at
 fits_on st tuples threads told f i = record {
+  own_first = f.own_first;
   arrivals_few = f.arrivals_few;
   sound_is = f.sound_is;
   invariant = i;
