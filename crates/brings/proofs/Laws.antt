@@ -8,8 +8,8 @@ use native.Mathlib.Omega.{arith}
 use native.Mathlib.Decide.{ℕ_discrete}
 use borrow.Author.Tests.{eq-eqb, ne_eqb, lt-ltb, le-ltb}
 use lib.Dec.{eqb, ltb}
-use lib.ListN.{length, get_or, set}
-use lib.Seq.{get_or-set_same, get_or-set_other}
+use lib.ListN.{length, get_or, set, take}
+use lib.Seq.{take-append-le, get_or-set_same, get_or-set_other}
 use Rattle.sets.specs.Lists.{◌&◌, either}
 use Rattle.sets.specs.Bits.{mem, join}
 use Rattle.sets.proofs.Lists.{or_false, iff, all_turn, ltb_lt, All-in}
@@ -37,9 +37,13 @@ use Rattle.state.specs.declared.Event.TheVariants.{Brought as Came}
 use Rattle.state.specs.declared.State.{State}
 use Rattle.state.specs.View.{Arrivals, no_arrival, arrival_root, arrivals_of, state_view, result_view}
 use Rattle.state.specs.Fits.{sound_at, Fits}
-use Rattle.state.proofs.Few.{sites_few}
+use Rattle.state.proofs.Few.{sites_few, own_few}
 use Rattle.state.proofs.On.{answering, answering_fits}
 use Rattle.brings.specs.Brought.{Brought}
+
+-- lines put behind others leave the first of these
+pub own_kept : (own : ℕ) (old new more : List Line) → own ≤ length old → new ≡ old ++ more → take own new ≡ take own old
+own_kept own old new more h e = ap (take own) e ∙ take-append-le own old more h
 
 -- a site more, or none
 module _ (set l s : ℕ) where
@@ -208,6 +212,7 @@ module _ {st : State} (f : Fits st) where
           joined_brought rows e = record {
             result = rw behind_view (sym (joined_by rows e));
             fits = record {
+              own_first = own_kept st.net.lines.count (lines_of st.lines) (lines_of new) _ (omega (arith, own_few f, lines_long st.lines)) j ∙ f.own_first;
               arrivals_few = omega (arith, some_line, f.arrivals_few, n, m);
               sound_is = sound_all;
               invariant = subst Invariant (ap (λ (r : Result). r.state) (joined_by rows e) ∙ sym behind_view) (bring_keeps (state_view st) rows f.invariant);

@@ -7,6 +7,7 @@ use Prim.Native.Nat.{ℕ, ◌+◌, ◌<◌, ◌≤◌}
 use native.Mathlib.Omega.{arith}
 use native.Mathlib.Numerals.{add-one}
 use lib.ListN.{length}
+use lib.Seq.{take_all}
 use Rattle.std.specs.Prelude as Prelude
 use Rattle.sets.specs.Lists.{concat, table, table_from}
 use Rattle.sets.proofs.Lists.{All-in, cat_append}
@@ -19,17 +20,19 @@ use Rattle.klaim.specs.Refusals.{answer_of}
 use Rattle.klaim.specs.declared.Refusal.{Refusal}
 use Rattle.klaim.specs.State as Spec
 use Rattle.klaim.specs.State.{settle, home_policy, root_thread, begin, start}
+use Rattle.klaim.specs.Engine.{silent}
 use Rattle.klaim.specs.WellFormed.{RootOk, NetOk}
 use Rattle.klaim.specs.Invariant.{Invariant}
 use Rattle.klaim.proofs.Reader.{both_read}
 use Rattle.klaim.proofs.Invariant.{start_gives}
 use Rattle.tables.specs.View.{Roots, net_view, estimate_view, lines_of, tuples_of, roots_of, root_at}
+use Rattle.tables.proofs.LineTable.{lines_long}
 use Rattle.threads.specs.View.{Threads, threads_of}
 use Rattle.worlds.specs.declared.World as Code
 use Rattle.worlds.specs.World.{world_view}
 use Rattle.state.specs.declared.State.{State}
-use Rattle.state.specs.declared.Event.TheVariants.{Silent}
-use Rattle.state.specs.View.{Arrivals, arrival_root, arrivals_of, state_view}
+use Rattle.state.specs.declared.Event.{Event}
+use Rattle.state.specs.View.{Arrivals, arrival_root, arrivals_of, state_view, answer_view}
 use Rattle.state.specs.Fits.{Fits}
 use Rattle.starts.specs.Started.{Started, RootsPlaced}
 
@@ -69,7 +72,7 @@ settle_few ls th = go (Spec.is_nil (line_at ls th.line))
     go false = omega arith
 
 -- a state of what was read and of these threads, nothing brought
-module _ (w : Code.World) (arrivals : Arrivals) (threads : Threads) where
+module _ (w : Code.World) (arrivals : Arrivals) (threads : Threads) (told : Prelude.Result Event Refusal) where
   abbrev pub begun : State
   begun = record {
     net = w.net;
@@ -78,7 +81,7 @@ module _ (w : Code.World) (arrivals : Arrivals) (threads : Threads) where
     arrivals = arrivals;
     tuples = w.net.tuples;
     threads = threads;
-    told = Prelude.Ok Silent;
+    told = told;
   }
 
   pub begun_view : arrivals.count ≡ 0 → threads_of threads ≡ concat (λ x. settle (lines_of w.net.lines) (root_thread (net_view w.net) x)) (roots_of w.net.roots) → state_view begun ≡ begin (world_view w)
@@ -88,6 +91,7 @@ module _ (w : Code.World) (arrivals : Arrivals) (threads : Threads) where
 
   pub begun_fits : arrivals.count ≡ 0 → Invariant (state_view begun) → Fits begun
   begun_fits z i = record {
+    own_first = take_all w.net.lines.count (lines_of w.net.lines) (omega (arith, lines_long w.net.lines));
     arrivals_few = omega (arith, z);
     sound_is = λ i l h k. absurd (omega (arith, z, h));
     invariant = i;
@@ -108,13 +112,13 @@ module _ (w : Code.World) (net estimate : List ℕ) (e : gives (world_view w) �
       }
 
   -- a start of it
-  pub started : (st : State) → state_view st ≡ begin (world_view w) → (Invariant (state_view st) → Fits st) → Started net estimate (Prelude.Ok st)
+  pub started : (st : State) → state_view st ≡ begin (world_view w) → (Invariant (state_view st) → Fits st) → answer_view st.told ≡ gives silent → Started net estimate (Prelude.Ok st)
   unfolding start and_then
-  started st q f =
+  started st q f t =
       let r : gives (state_view st) ≡ start net estimate = ap (λ (s : Spec.State). gives s) q ∙ ap (λ (a : Answer World). and_then a (λ x. gives (begin x))) e in
-      record { result = r; fits = f (start_gives net estimate (state_view st) (sym r)) }
+      record { result = r; fits = f (start_gives net estimate (state_view st) (sym r)); told = t }
 
 -- a start of texts that are refused
 pub not_started : (net estimate : List ℕ) (why : Refusal) → answer_of world_view (Prelude.Err why) ≡ read_both net estimate → Started net estimate (Prelude.Err why)
 unfolding start and_then
-not_started net estimate why e = record { result = ap (λ (a : Answer World). and_then a (λ x. gives (begin x))) e; fits = tt }
+not_started net estimate why e = record { result = ap (λ (a : Answer World). and_then a (λ x. gives (begin x))) e; fits = tt; told = tt }

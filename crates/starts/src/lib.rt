@@ -3,12 +3,14 @@
 
 ghost use Rattle.std.specs.Prelude.{◌≡◌, [], ◌<◌};
 ghost use Rattle.sets.specs.Lists.{concat};
+ghost use Rattle.klaim.specs.Reader.{gives};
 ghost use Rattle.klaim.specs.State.{settle, root_thread, begin as begin_of};
+ghost use Rattle.klaim.specs.Engine.{silent};
 ghost use Rattle.klaim.specs.Invariant.{Invariant};
 ghost use Rattle.tables.specs.View.{net_view, lines_of, roots_of, root_view};
 ghost use Rattle.threads.specs.View.{thread_view, threads_of};
 ghost use Rattle.worlds.specs.World.{world_view};
-ghost use Rattle.state.specs.View.{state_view};
+ghost use Rattle.state.specs.View.{state_view, answer_view};
 ghost use Rattle.state.specs.Fits.{Fits};
 ghost use Rattle.starts.specs.Started.{Started, RootsPlaced};
 
@@ -62,6 +64,7 @@ fn begin(w: World) -> State
     requires { RootsPlaced w.net.roots }
     ensures value { state_view result ≡ begin_of (world_view w) }
     ensures fits { Invariant (state_view result) → Fits result }
+    ensures told { answer_view result.told ≡ gives silent }
 {
     let threads = root_threads(&w.net);
     State {

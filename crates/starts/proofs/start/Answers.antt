@@ -11,4 +11,4 @@ pub begin-requires : goal.begin-requires
 begin-requires c = roots_in c.in_ok-world.world c.args.net.now c.args.estimate.now c.in_ok-world.ensures
 
 pub returns : goal.returns
-returns c = started c.in_ok-world.world c.args.net.now c.args.estimate.now c.in_ok-world.ensures c.begin.result c.begin.ensures.value c.begin.ensures.fits
+returns c = started c.in_ok-world.world c.args.net.now c.args.estimate.now c.in_ok-world.ensures c.begin.result c.begin.ensures.value c.begin.ensures.fits c.begin.ensures.told
