@@ -18,7 +18,7 @@ PLACES = [
     ("flow", "return net.sandbox(k, t) & net.sandbox_self(k);"),
     ("whole", "variable(target) | own.used | (rest ^ (rest & own.bound))"),
     ("flow", "pub fn empty() -> UseMap"),
-    ("flow", "pub const OUT: u8 = 1;"),
+    ("flow", "pub const SITES: usize = tables::SITES;"),
     ("flow", "pub fn use_map("),
     ("klaim", "pub struct Site(pub u8);"),
     ("klaim", "pub struct Var(pub u8);"),

@@ -75,6 +75,8 @@ pub struct UseMap {
 }
 
 impl UseMap {
+    pub const SITES: usize = tables::SITES;
+
     pub const OUT: u8 = 1;
 
     pub const IN: u8 = 2;
@@ -93,7 +95,7 @@ impl UseMap {
         ensures { result.rights ≡ table 32 (λ s. 0) }
     {
         UseMap {
-            rights: [0u8; SITES],
+            rights: [0u8; UseMap::SITES],
         }
     }
 
