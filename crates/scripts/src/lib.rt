@@ -5,8 +5,10 @@
 ghost use Rattle.std.specs.Prelude.{◌≡◌, false, IfOk};
 ghost use Rattle.std.specs.declared.io.Error.{Error};
 ghost use Rattle.state.specs.Fits.{Fits};
+ghost use Rattle.step.specs.Stepped.{Stepped};
+ghost use Rattle.scripts.specs.Obeyed.{Obeyed};
 
-use commands::Command;
+use commands::{Choice, Command};
 use klaim::{Reason, Refusal};
 use script_rows::{Find, Incoming};
 use state::{Event, State};
@@ -64,18 +66,23 @@ fn say_ready<W: Write>(output: &mut W, answer: Option<u8>) -> io::Result<()> {
     }
 }
 
+// A step, guarded or bare.
+fn act(state: &mut State, guarded: bool, choice: Choice)
+    requires { Fits state.old }
+    ensures { Stepped guarded state.old choice.thread choice.tuple choice.root state.new }
+{
+    step::step(state, guarded, choice.thread, choice.tuple, choice.root);
+}
+
 // Does what a command says to the state; `rows` are those of a `bring`.
 fn obey(state: &mut State, command: Command, rows: &[u8])
     requires { Fits state.old }
-    ensures { Fits state.new }
+    ensures fits { Fits state.new }
+    ensures obeyed { Obeyed command rows.now state.old state.new }
 {
     match command {
-        Command::Step(choice) => {
-            step::step(state, false, choice.thread, choice.tuple, choice.root);
-        }
-        Command::Guarded(choice) => {
-            step::step(state, true, choice.thread, choice.tuple, choice.root);
-        }
+        Command::Step(choice) => act(state, false, choice),
+        Command::Guarded(choice) => act(state, true, choice),
         Command::Bring => brings::bring(state, rows),
         Command::Withdraw => withdraws::withdraw(state),
         Command::Door { .. } | Command::Ready | Command::Overlong | Command::Bad => {}
