@@ -4,6 +4,7 @@
 
 ghost use Rattle.std.specs.Prelude.{◌≡◌, false, IfOk};
 ghost use Rattle.std.specs.declared.io.Error.{Error};
+ghost use Rattle.script_rows.specs.Window.{HasFailed};
 ghost use Rattle.state.specs.Fits.{Fits};
 ghost use Rattle.step.specs.Stepped.{Stepped};
 ghost use Rattle.scripts.specs.Obeyed.{Obeyed};
@@ -134,7 +135,9 @@ fn run_all<R: Read, W: Write>(
     output: &mut W,
     begun: State,
 ) -> Result<(), Failure>
-    requires { Fits begun }
+    requires fits { Fits begun }
+    requires going { ¬ HasFailed incoming.old.window }
+    ensures failed { (why : Error) → incoming.new.window.found ≡ Find.Failed why → result ≡ Err (Failure.Unread why) }
 {
     let mut state = begun;
     for _ in 0..u64::MAX {
@@ -151,7 +154,9 @@ fn carry_on<R: Read, W: Write>(
     output: &mut W,
     begun: Result<State, Refusal>,
 ) -> Result<(), Failure>
-    requires { IfOk begun Fits }
+    requires fits { IfOk begun Fits }
+    requires going { ¬ HasFailed incoming.old.window }
+    ensures failed { (why : Error) → incoming.new.window.found ≡ Find.Failed why → result ≡ Err (Failure.Unread why) }
 {
     match begun {
         Ok(state) => {
@@ -193,10 +198,9 @@ fn is_long<R: Read>(incoming: &Incoming<'_, R>) -> bool {
 }
 
 // Runs a script: net rows, a row `.`, estimate rows, a row `.`, commands. A head longer than the limit is 2, row 0.
-pub fn run<R: Read, W: Write>(
-    incoming: &mut Incoming<'_, R>,
-    output: &mut W,
-) -> Result<(), Failure> {
+pub fn run<R: Read, W: Write>(incoming: &mut Incoming<'_, R>, output: &mut W) -> Result<(), Failure>
+    ensures failed { (why : Error) → incoming.new.window.found ≡ Find.Failed why → result ≡ Err (Failure.Unread why) }
+{
     read_head(incoming);
     if let Find::Failed(why) = incoming.window.found {
         return Err(Failure::Unread(why));
