@@ -17,6 +17,9 @@ use std::io::{ErrorKind, Read, Stdin, Stdout, Write};
 // Room for the longest name of a file.
 pub const NAME: usize = 4096;
 
+// Room for the name of a program, what it could not do, and the longest name of a file.
+const MESSAGE: usize = 4160;
+
 // Room for why a call failed, in the system's words.
 const REASON: usize = 256;
 
@@ -179,14 +182,18 @@ fn has_argument(rt: &HostRuntime, number: usize) -> bool {
 impl Program {
     // A row on standard error: the program, what it could not do, with what, and why.
     fn tell<W: Write>(self, errors: &mut W, what: &[u8], name: &[u8], why: io::Error) {
+        let mut row = [0u8; MESSAGE];
+        let mut rest = &mut row[..];
+        let _ = rest.write(self.name);
+        let _ = rest.write(b": cannot ");
+        let _ = rest.write(what);
+        let _ = rest.write(b" ");
+        let _ = rest.write(name);
+        let n = MESSAGE - rest.len();
         let mut reason = [0u8; REASON];
         let mut room = &mut reason[..];
         let _ = write!(room, "{why}");
-        mention(errors, self.name);
-        mention(errors, b": cannot ");
-        mention(errors, what);
-        mention(errors, b" ");
-        mention(errors, name);
+        mention(errors, &row[..n]);
         mention(errors, b": ");
         mention(errors, words(&reason));
         mention(errors, b"\n");
