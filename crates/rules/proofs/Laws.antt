@@ -2,17 +2,36 @@
 -- Assumes nothing.
 use mathlib.Core.Path.{◌≡◌, refl, sym, ap, ◌∙◌}
 use mathlib.Core.Bool.{Bool, true, false}
-use mathlib.Core.List.{List, [], ◌∷◌}
-use Prim.Native.Nat.{ℕ}
+use mathlib.Core.List.{List, [], ◌∷◌, ◌++◌}
+use Prim.Native.Nat.{ℕ, ◌+◌}
 use lib.ListN.{get_or}
+use Rattle.std.specs.Prelude.{◌&&◌}
 use Rattle.sets.specs.Lists.{◌&◌, imp, all, only, keep, ◌⧺◌, table, below}
 use Rattle.sets.specs.Bits.{mem, sites, within, joins}
 use Rattle.sets.proofs.Lists.{all_at, all_i, all_same, iff}
+use Rattle.sets.proofs.Runs.{below_snoc}
 use Rattle.sets.proofs.Tables.{get_or_table, in_below}
 use Rattle.sets.proofs.Bits.{within_joins}
 use Rattle.klaim.specs.declared.Loc.{Loc}
 use Rattle.klaim.specs.Net.{Net, Estimate, box_at, holds}
 use Rattle.klaim.specs.Analysis.{reach, reached, eval_rule}
+
+-- all numbers below a limit, and the next one
+both_all : (f : ℕ → Bool) (xs : List ℕ) (x : ℕ) → (all f xs && f x) ≡ all f (xs ++ (x ∷ []))
+unfolding all ◌&◌
+both_all f [] x = go (f x)
+  where
+    go : (b : Bool) → (true && b) ≡ (b & true)
+    go true = refl
+    go false = refl
+both_all f (y ∷ ys) x = go (f y) _ _ (both_all f ys x)
+  where
+    go : (b : Bool) (c d : Bool) → (c && f x) ≡ d → ((b & c) && f x) ≡ (b & d)
+    go true c d e = e
+    go false c d e = refl
+
+pub all_further : (f : ℕ → Bool) (n : ℕ) → (all f (below n) && f n) ≡ all f (below (n + 1))
+all_further f n = both_all f (below n) n ∙ ap (all f) (sym (below_snoc n))
 
 all_only : {A : Type 0} (f : A → Bool) (b : Bool) (x : A) (ys : List A) → (imp b (f x) & all f ys) ≡ all f (only b x ⧺ ys)
 unfolding imp only ◌⧺◌ all ◌&◌
