@@ -179,7 +179,9 @@ fn take<R: Reader>(reader: &mut R, row: Option<&Row>) -> Result<(), Reason>
     Ok(())
 }
 
-// The rows of a text, taken in one after the other, up to the first that is refused.
+// The rows of a text, taken in one after the other, up to the first that is refused. Not inlined: in a body that reads them the tables
+// of a net would be copied once more.
+#[inline(never)]
 pub fn read<R: Reader>(reader: &mut R, s: &[u8]) -> Result<(), Refusal>
     ensures { (t : Text) → R.holds t [] reader.old → RowsRead t s.now (λ rows. R.holds t rows reader.new) result }
 {
