@@ -46,7 +46,9 @@ fn no_threads() -> Threads
     })
 }
 
-// The threads of the roots, in order.
+// The threads of the roots, in order. Not inlined: in a body that makes a state the list, and with it the state, would be copied once
+// more.
+#[inline(never)]
 fn root_threads(net: &Net) -> Threads
     requires { RootsPlaced net.now.roots }
     ensures { threads_of result ≡ concat (λ x. settle (lines_of net.now.lines) (root_thread (net_view net.now) x)) (roots_of net.now.roots) }
