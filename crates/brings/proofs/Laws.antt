@@ -37,7 +37,7 @@ use Rattle.state.specs.declared.Event.TheVariants.{Brought as Came}
 use Rattle.state.specs.declared.State.{State}
 use Rattle.state.specs.View.{Arrivals, no_arrival, arrival_root, arrivals_of, state_view, result_view}
 use Rattle.state.specs.Fits.{sound_at, Fits}
-use Rattle.state.proofs.Few.{sites_few, own_few}
+use Rattle.state.proofs.Few.{sites_few}
 use Rattle.state.proofs.On.{answering, answering_fits}
 use Rattle.brings.specs.Brought.{Brought}
 
@@ -212,7 +212,6 @@ module _ {st : State} (f : Fits st) where
           joined_brought rows e = record {
             result = rw behind_view (sym (joined_by rows e));
             fits = record {
-              own_first = own_kept st.net.lines.count (lines_of st.lines) (lines_of new) _ (omega (arith, own_few f, lines_long st.lines)) j ∙ f.own_first;
               arrivals_few = omega (arith, some_line, f.arrivals_few, n, m);
               sound_is = sound_all;
               invariant = subst Invariant (ap (λ (r : Result). r.state) (joined_by rows e) ∙ sym behind_view) (bring_keeps (state_view st) rows f.invariant);

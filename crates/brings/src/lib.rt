@@ -10,7 +10,7 @@ ghost use Rattle.klaim.specs.WellFormed.{ArrivalRead};
 ghost use Rattle.tables.specs.View.{lines_of, net_view, estimate_view, InForm};
 ghost use Rattle.rules.specs.Masks.{Sized};
 ghost use Rattle.door.specs.Parts.{sound as sound_of};
-ghost use Rattle.state.specs.Fits.{Fits};
+ghost use Rattle.state.specs.Fits.{Fits, FitsNet};
 ghost use Rattle.brings.specs.Brought.{Brought};
 
 use matching::RowIndex;
@@ -54,7 +54,8 @@ fn join(state: &mut State, arrival: &Lines)
 // An arrival's rows brought: the answer is the root's line number, or a refusal.
 pub fn bring(state: &mut State, rows: &[u8])
     requires { Fits state.old }
-    ensures { Brought state.old rows.now state.new }
+    ensures brought { Brought state.old rows.now state.new }
+    ensures net { FitsNet state.old → FitsNet state.new }
 {
     match arrivals::read_arrival(state.net.size, state.lines.count, rows) {
         Ok(arrival) => join(state, &arrival),

@@ -4,7 +4,7 @@
 #![tactic(auto)]
 
 ghost use Rattle.std.specs.Prelude.{◌≤◌, IfOk};
-ghost use Rattle.state.specs.Fits.{Fits};
+ghost use Rattle.state.specs.Fits.{Fits, FitsNet};
 
 use klaim::Refusal;
 use state::State;
@@ -99,8 +99,8 @@ fn opened(answer: Result<bool, Refusal>) -> u32 {
 
 // Steps, guarded or bare, each by the next three of the choices: how many of them were performed.
 fn steps(state: &mut State, guarded: bool, choices: &[u8], count: usize) -> u32
-    requires { Fits state.old }
-    ensures { Fits state.new }
+    requires { FitsNet state.old }
+    ensures { FitsNet state.new }
 {
     let mut performed: u32 = 0;
     let mut at: usize = 0;
@@ -117,8 +117,8 @@ fn steps(state: &mut State, guarded: bool, choices: &[u8], count: usize) -> u32
 
 // One bare step for every three of the choices.
 fn prepare(state: &mut State, choices: &[u8])
-    requires { Fits state.old }
-    ensures { Fits state.new }
+    requires { FitsNet state.old }
+    ensures { FitsNet state.new }
 {
     steps(state, false, choices, choices.len() / CHOICE);
 }
@@ -152,8 +152,8 @@ fn door_times(state: &State, choices: &[u8], count: usize) -> u32
 
 // Brings an arrival to the same state again and again: the last state.
 fn bring_times(state: &State, arrival: &[u8], count: usize) -> State
-    requires { Fits state.now }
-    ensures { Fits result }
+    requires { FitsNet state.now }
+    ensures { FitsNet result }
 {
     let mut last = *state;
     for _ in 0..count {
@@ -165,8 +165,8 @@ fn bring_times(state: &State, arrival: &[u8], count: usize) -> State
 
 // Withdraws the newest arrival from the same state again and again: the last state.
 fn withdraw_times(state: &State, count: usize) -> State
-    requires { Fits state.now }
-    ensures { Fits result }
+    requires { FitsNet state.now }
+    ensures { FitsNet result }
 {
     let mut last = *state;
     for _ in 0..count {
@@ -178,7 +178,7 @@ fn withdraw_times(state: &State, count: usize) -> State
 
 // The state behind a start and a bring; where the bring is refused, or there is no arrival, the state as it was.
 fn brought(net: &[u8], estimate: &[u8], arrival: &[u8]) -> Result<State, Refusal>
-    ensures { IfOk result Fits }
+    ensures { IfOk result FitsNet }
 {
     let mut state = starts::start(net, estimate)?;
     brings::bring(&mut state, arrival);
@@ -241,7 +241,7 @@ pub extern "C" fn salmurkki_door(
 
 // What is ready behind a step for every three of the choices.
 fn ready_behind(mut state: State, choices: &[u8], count: usize) -> u32
-    requires { Fits state }
+    requires { FitsNet state }
 {
     prepare(&mut state, choices);
     ready_times(&state, count)
@@ -264,7 +264,7 @@ pub extern "C" fn salmurkki_ready(
 
 // An arrival brought to the same state again and again, and what is then ready.
 fn bring_behind(state: State, arrival: &[u8], count: usize) -> u32
-    requires { Fits state }
+    requires { FitsNet state }
 {
     let last = bring_times(&state, arrival, count);
     placed(ready::ready(&last))
@@ -294,7 +294,7 @@ fn counted(state: &State) -> u32
 
 // The newest arrival withdrawn behind a step for every three of the choices.
 fn withdraw_behind(mut state: State, choices: &[u8], count: usize) -> u32
-    requires { Fits state }
+    requires { FitsNet state }
 {
     prepare(&mut state, choices);
     let last = withdraw_times(&state, count);
@@ -319,7 +319,7 @@ pub extern "C" fn salmurkki_withdraw(
 
 // Starts again and again: the last answer.
 fn start_times(net: &[u8], estimate: &[u8], count: usize) -> Result<State, Refusal>
-    ensures { IfOk result Fits }
+    ensures { IfOk result FitsNet }
 {
     let mut last = starts::start(net, estimate);
     for _ in 1..count {

@@ -5,7 +5,7 @@
 ghost use Rattle.std.specs.Prelude.{◌≡◌, false, IfOk};
 ghost use Rattle.std.specs.declared.io.Error.{Error};
 ghost use Rattle.script_rows.specs.Window.{HasFailed};
-ghost use Rattle.state.specs.Fits.{Fits};
+ghost use Rattle.state.specs.Fits.{Fits, FitsNet};
 ghost use Rattle.step.specs.Stepped.{Stepped};
 ghost use Rattle.scripts.specs.Obeyed.{Obeyed};
 
@@ -70,15 +70,16 @@ fn say_ready<W: Write>(output: &mut W, answer: Option<u8>) -> io::Result<()> {
 // A step, guarded or bare.
 fn act(state: &mut State, guarded: bool, choice: Choice)
     requires { Fits state.old }
-    ensures { Stepped guarded state.old choice.thread choice.tuple choice.root state.new }
+    ensures stepped { Stepped guarded state.old choice.thread choice.tuple choice.root state.new }
+    ensures net { FitsNet state.old → FitsNet state.new }
 {
     step::step(state, guarded, choice.thread, choice.tuple, choice.root);
 }
 
 // Does what a command says to the state; `rows` are those of a `bring`.
 fn obey(state: &mut State, command: Command, rows: &[u8])
-    requires { Fits state.old }
-    ensures fits { Fits state.new }
+    requires { FitsNet state.old }
+    ensures fits { FitsNet state.new }
     ensures obeyed { Obeyed command rows.now state.old state.new }
 {
     match command {
@@ -115,8 +116,8 @@ fn turn<R: Read, W: Write>(
     output: &mut W,
     state: &mut State,
 ) -> Result<bool, Failure>
-    requires { Fits state.old }
-    ensures fits { Fits state.new }
+    requires { FitsNet state.old }
+    ensures fits { FitsNet state.new }
     ensures failed { (why : Error) → incoming.new.window.found ≡ Find.Failed why → result ≡ Err (Failure.Unread why) }
     ensures ended { result ≡ Ok false → incoming.new.window.found ≡ Find.End }
 {
@@ -135,7 +136,7 @@ fn run_all<R: Read, W: Write>(
     output: &mut W,
     begun: State,
 ) -> Result<(), Failure>
-    requires fits { Fits begun }
+    requires fits { FitsNet begun }
     requires going { ¬ HasFailed incoming.old.window }
     ensures failed { (why : Error) → incoming.new.window.found ≡ Find.Failed why → result ≡ Err (Failure.Unread why) }
 {
@@ -154,7 +155,7 @@ fn carry_on<R: Read, W: Write>(
     output: &mut W,
     begun: Result<State, Refusal>,
 ) -> Result<(), Failure>
-    requires fits { IfOk begun Fits }
+    requires fits { IfOk begun FitsNet }
     requires going { ¬ HasFailed incoming.old.window }
     ensures failed { (why : Error) → incoming.new.window.found ≡ Find.Failed why → result ≡ Err (Failure.Unread why) }
 {
@@ -169,7 +170,7 @@ fn carry_on<R: Read, W: Write>(
 
 // The state that begins from a net, and an estimate up to a row `.`.
 fn begin_behind(net: &[u8], rest: &[u8]) -> Result<State, Refusal>
-    ensures { IfOk result Fits }
+    ensures { IfOk result FitsNet }
 {
     let n = parts::before(rest);
     starts::start(net, &rest[..n])
@@ -177,7 +178,7 @@ fn begin_behind(net: &[u8], rest: &[u8]) -> Result<State, Refusal>
 
 // The state that begins from a head: net, a row `.`, estimate, a row `.`.
 fn begin(head: &[u8]) -> Result<State, Refusal>
-    ensures { IfOk result Fits }
+    ensures { IfOk result FitsNet }
 {
     let n = parts::before(head);
     let from = parts::behind(head, n);

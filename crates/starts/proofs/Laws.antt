@@ -33,7 +33,7 @@ use Rattle.worlds.specs.World.{world_view}
 use Rattle.state.specs.declared.State.{State}
 use Rattle.state.specs.declared.Event.{Event}
 use Rattle.state.specs.View.{Arrivals, arrival_root, arrivals_of, state_view, answer_view}
-use Rattle.state.specs.Fits.{Fits}
+use Rattle.state.specs.Fits.{Fits, FitsNet}
 use Rattle.starts.specs.Started.{Started, RootsPlaced}
 
 -- the thread of a root
@@ -89,12 +89,14 @@ module _ (w : Code.World) (arrivals : Arrivals) (threads : Threads) (told : Prel
   begun_view z e =
       ap₂ (λ (n : ℕ) (ts : List Spec.Thread). record { net = net_view w.net; estimate = estimate_view w.estimate; lines = lines_of w.net.lines; arrivals = table n (arrival_root arrivals); threads = ts; tuples = tuples_of w.net.tuples }) z e
 
-  pub begun_fits : arrivals.count ≡ 0 → Invariant (state_view begun) → Fits begun
+  pub begun_fits : arrivals.count ≡ 0 → Invariant (state_view begun) → FitsNet begun
   begun_fits z i = record {
     own_first = take_all w.net.lines.count (lines_of w.net.lines) (omega (arith, lines_long w.net.lines));
-    arrivals_few = omega (arith, z);
-    sound_is = λ i l h k. absurd (omega (arith, z, h));
-    invariant = i;
+    fits = record {
+      arrivals_few = omega (arith, z);
+      sound_is = λ i l h k. absurd (omega (arith, z, h));
+      invariant = i;
+    };
   }
 
 -- what was read
@@ -111,12 +113,17 @@ module _ (w : Code.World) (net estimate : List ℕ) (e : gives (world_view w) �
         placed = λ i h. omega (arith, (root i h).placed, net_ok.sites_few);
       }
 
-  -- a start of it
-  pub started : (st : State) → state_view st ≡ begin (world_view w) → (Invariant (state_view st) → Fits st) → answer_view st.told ≡ gives silent → Started net estimate (Prelude.Ok st)
-  unfolding start and_then
-  started st q f t =
-      let r : gives (state_view st) ≡ start net estimate = ap (λ (s : Spec.State). gives s) q ∙ ap (λ (a : Answer World). and_then a (λ x. gives (begin x))) e in
-      record { result = r; fits = f (start_gives net estimate (state_view st) (sym r)); told = t }
+  -- a start of it: the state that stands for what begins is the one that starts, whatever it says of the call behind it
+  module _ (st : State) (q : state_view st ≡ begin (world_view w)) where
+    pub start_of : gives (state_view st) ≡ start net estimate
+    unfolding start and_then
+    start_of = ap (λ (s : Spec.State). gives s) q ∙ ap (λ (a : Answer World). and_then a (λ x. gives (begin x))) e
+
+    pub start_fits : (Invariant (state_view st) → Fits st) → Fits st
+    start_fits f = f (start_gives net estimate (state_view st) (sym start_of))
+
+    pub started : (Invariant (state_view st) → FitsNet st) → answer_view st.told ≡ gives silent → Started net estimate (Prelude.Ok st)
+    started f t = record { result = start_of; fits = f (start_gives net estimate (state_view st) (sym start_of)); told = t }
 
 -- a start of texts that are refused
 pub not_started : (net estimate : List ℕ) (why : Refusal) → answer_of world_view (Prelude.Err why) ≡ read_both net estimate → Started net estimate (Prelude.Err why)

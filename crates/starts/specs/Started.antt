@@ -9,13 +9,13 @@ use Rattle.klaim.specs.declared.Refusal.{Refusal}
 use Rattle.tables.specs.View.{Roots, root_at}
 use Rattle.state.specs.declared.State.{State}
 use Rattle.state.specs.View.{state_view, answer_view}
-use Rattle.state.specs.Fits.{Fits}
+use Rattle.state.specs.Fits.{FitsNet}
 
--- the engine began: the state or the refusal is that of document 01, and a state has the invariant, and says of the call behind it that
--- this was silent
+-- the engine began: the state or the refusal is that of document 01, and a state has the invariant, its first lines are the net's, and it
+-- says of the call behind it that this was silent
 pub record Started (net estimate : List ℕ) (begun : Result State Refusal) : Type 0 where
   pub result : answer_of state_view begun ≡ Spec.start net estimate
-  pub fits : IfOk begun Fits
+  pub fits : IfOk begun FitsNet
   pub told : IfOk begun (λ st. answer_view st.told ≡ gives silent)
 
 -- each of the roots stands at one of 32 sites

@@ -11,7 +11,7 @@ ghost use Rattle.tables.specs.View.{net_view, lines_of, roots_of, root_view};
 ghost use Rattle.threads.specs.View.{thread_view, threads_of};
 ghost use Rattle.worlds.specs.World.{world_view};
 ghost use Rattle.state.specs.View.{state_view, answer_view};
-ghost use Rattle.state.specs.Fits.{Fits};
+ghost use Rattle.state.specs.Fits.{FitsNet};
 ghost use Rattle.starts.specs.Started.{Started, RootsPlaced};
 
 use klaim::{Refusal, Site};
@@ -65,7 +65,7 @@ fn root_threads(net: &Net) -> Threads
 fn begin(w: World) -> State
     requires { RootsPlaced w.net.roots }
     ensures value { state_view result ≡ begin_of (world_view w) }
-    ensures fits { Invariant (state_view result) → Fits result }
+    ensures fits { Invariant (state_view result) → FitsNet result }
     ensures told { answer_view result.told ≡ gives silent }
 {
     let threads = root_threads(&w.net);

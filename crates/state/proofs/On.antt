@@ -8,18 +8,22 @@ use Rattle.threads.specs.View.{Threads}
 use Rattle.state.specs.declared.Event.{Event}
 use Rattle.state.specs.declared.State.{State}
 use Rattle.state.specs.View.{state_view, gone_on}
-use Rattle.state.specs.Fits.{sound_at, Fits}
+use Rattle.state.specs.Fits.{sound_at, Fits, FitsNet}
 
 -- it keeps what is its own of the invariant
 pub fits_on : (st : State) (tuples : Tuples) (threads : Threads) (told : Prelude.Result Event Refusal) →
     Fits st → Invariant (state_view (gone_on st tuples threads told)) → Fits (gone_on st tuples threads told)
 unfolding state_view sound_at
 fits_on st tuples threads told f i = record {
-  own_first = f.own_first;
   arrivals_few = f.arrivals_few;
   sound_is = f.sound_is;
   invariant = i;
 }
+
+-- and the net's lines stay the first
+pub net_on : (st : State) (tuples : Tuples) (threads : Threads) (told : Prelude.Result Event Refusal) →
+    FitsNet st → Invariant (state_view (gone_on st tuples threads told)) → FitsNet (gone_on st tuples threads told)
+net_on st tuples threads told f i = record { own_first = f.own_first; fits = fits_on st tuples threads told f.fits i }
 
 -- another answer alone
 abbrev pub answering : State → Prelude.Result Event Refusal → State

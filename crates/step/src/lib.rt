@@ -7,7 +7,7 @@ ghost use Rattle.klaim.specs.State.{settle as settle_in};
 ghost use Rattle.tables.specs.View.{lines_of, tuples_of, net_view};
 ghost use Rattle.threads.specs.View.{thread_view, threads_of};
 ghost use Rattle.state.specs.View.{state_view, event_view, gone_on};
-ghost use Rattle.state.specs.Fits.{Fits};
+ghost use Rattle.state.specs.Fits.{Fits, FitsNet};
 ghost use Rattle.state.specs.Table.{TableAfter};
 ghost use Rattle.plan.specs.Move.{IsUse, IsChange, added_after, tuples_after, state_after};
 ghost use Rattle.step.specs.Stepped.{event_of, may as may_of, room, Decided, Movable, Performed, Stepped};
@@ -163,6 +163,7 @@ fn perform(state: &mut State, k: usize, m: usize, v: Move)
 pub fn step(state: &mut State, guarded: bool, k: usize, m: usize, r: usize)
     requires { Fits state.old }
     ensures stepped { Stepped guarded state.old k m r state.new }
+    ensures net { FitsNet state.old → FitsNet state.new }
     ensures kept { state.new ≡ gone_on state.old state.new.tuples state.new.threads state.new.told }
     ensures table { TableAfter state.old.tuples m state.new.tuples }
 {

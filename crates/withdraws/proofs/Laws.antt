@@ -8,7 +8,7 @@ use Prim.Native.Nat.{ℕ, ◌-◌, ◌<◌, ◌≤◌}
 use native.Mathlib.Omega.{arith}
 use lib.Dec.{leb}
 use lib.ListN.{length, get_or, take}
-use lib.Seq.{length-take-le, get_or-take, take_all, take-take}
+use lib.Seq.{length-take-le, get_or-take, take_all}
 use Rattle.sets.specs.Lists.{Elem, either, any, table, table_from}
 use Rattle.sets.specs.Bits.{mem}
 use Rattle.sets.proofs.Lists.{in_get_or}
@@ -133,11 +133,6 @@ module _ {st : State} (f : Fits st) where
     unfolding state_view
     root_low = omega (arith, root_ok.present, lines_long st.lines)
 
-    -- the root lies behind the net's lines
-    own_low : st.net.lines.count ≤ root
-    unfolding state_view
-    own_low = omega (arith, root_ok.behind, lines_long st.net.lines)
-
     left_few : left ≤ root
     left_few = omega (arith, left_long, rising_few (take left roots) root roots_rise)
 
@@ -173,10 +168,6 @@ module _ {st : State} (f : Fits st) where
       unfolding state_view freed
       behind_view = rw (lines_kept, arrivals_kept, older_roots)
 
-      -- so these are still the first
-      own_kept : take st.net.lines.count (lines_of lines) ≡ lines_of st.net.lines
-      own_kept = ap (take st.net.lines.count) lines_kept ∙ take-take st.net.lines.count root (lines_of st.lines) own_low ∙ f.own_first
-
       -- the older arrivals are sound where they were
       sound_kept : (i l : ℕ) → i < left → sound_at behind i l ≡ sound_at st i l
       unfolding sound_at state_view
@@ -191,7 +182,6 @@ module _ {st : State} (f : Fits st) where
       kept_withdrawn o = record {
         result = rw behind_view (sym (by_threads false o));
         fits = record {
-          own_first = own_kept;
           arrivals_few = omega (arith, left_few, lc, ac);
           sound_is = λ i l k n.
               ap (λ (xs : List Arrival). mem l (get_or xs i no_arrival).sound) ai ∙ f.sound_is i l (omega (arith, k, ac)) n ∙ sym (sound_kept i l (omega (arith, k, ac)));

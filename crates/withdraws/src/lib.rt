@@ -4,7 +4,7 @@
 ghost use Rattle.std.specs.Prelude.{◌≡◌, leb};
 ghost use Rattle.sets.specs.Lists.{any};
 ghost use Rattle.threads.specs.View.{threads_of};
-ghost use Rattle.state.specs.Fits.{Fits};
+ghost use Rattle.state.specs.Fits.{Fits, FitsNet};
 ghost use Rattle.withdraws.specs.Withdrawn.{Withdrawn};
 
 use klaim::{Reason, Refusal};
@@ -22,7 +22,8 @@ fn occupied(threads: &Threads, r: u8) -> bool
 // counts go back: what a table holds behind its count is no part of a state.
 pub fn withdraw(state: &mut State)
     requires { Fits state.old }
-    ensures { Withdrawn state.old state.new }
+    ensures withdrawn { Withdrawn state.old state.new }
+    ensures net { FitsNet state.old → FitsNet state.new }
 {
     if state.arrivals.count == 0 {
         state.told = Err(Refusal::from(Reason::Newest));

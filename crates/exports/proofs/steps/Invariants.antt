@@ -1,8 +1,8 @@
 -- The place lies within the choices.
 -- Assumes nothing.
 use Rattle.std.proofs.Common.{◌≤◌, length}
-use Rattle.state.specs.Fits.{Fits}
+use Rattle.state.specs.Fits.{FitsNet}
 use Rattle.exports.proofs.steps.Given as goal
 
 abbrev pub invariant-loop : goal.invariant-loop
-invariant-loop l = Fits l.state × (l.at ≤ length l.choices)
+invariant-loop l = FitsNet l.state × (l.at ≤ length l.choices)

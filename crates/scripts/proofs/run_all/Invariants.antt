@@ -1,6 +1,6 @@
 use Rattle.script_rows.specs.Window.{HasFailed}
-use Rattle.state.specs.Fits.{Fits}
+use Rattle.state.specs.Fits.{FitsNet}
 use Rattle.scripts.proofs.run_all.Given as goal
 
 abbrev pub invariant-loop : goal.invariant-loop
-invariant-loop g l = Fits l.state × ¬ HasFailed l.incoming.window
+invariant-loop g l = FitsNet l.state × ¬ HasFailed l.incoming.window
