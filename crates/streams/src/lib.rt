@@ -180,7 +180,17 @@ fn has_argument(rt: &HostRuntime, number: usize) -> bool {
 }
 
 impl Program {
-    // A row on standard error: the program, what it could not do, with what, and why.
+    // What is in front of the reason in a message, part by part.
+    fn tell_parts<W: Write>(self, errors: &mut W, what: &[u8], name: &[u8]) {
+        mention(errors, self.name);
+        mention(errors, b": cannot ");
+        mention(errors, what);
+        mention(errors, b" ");
+        mention(errors, name);
+    }
+
+    // A row on standard error: the program, what it could not do, with what, and why. What is in front of the reason is one write where
+    // there is room for it, as there is with every name of a file.
     fn tell<W: Write>(self, errors: &mut W, what: &[u8], name: &[u8], why: io::Error) {
         let mut row = [0u8; MESSAGE];
         let mut rest = &mut row[..];
@@ -193,7 +203,11 @@ impl Program {
         let mut reason = [0u8; REASON];
         let mut room = &mut reason[..];
         let _ = write!(room, "{why}");
-        mention(errors, &row[..n]);
+        if n < MESSAGE {
+            mention(errors, &row[..n]);
+        } else {
+            self.tell_parts(errors, what, name);
+        }
         mention(errors, b": ");
         mention(errors, words(&reason));
         mention(errors, b"\n");
@@ -293,5 +307,26 @@ impl Program {
                 self.tell_failure(&mut rt.stderr(), source.name, failure);
             }
         }
+    }
+}
+
+#[cfg(test)]
+mod tests {
+    use super::*;
+
+    // A name for which a message has no room in one write is told whole.
+    #[test]
+    fn tells_long_name(rt: HostRuntime) {
+        let program = Program {
+            name: b"lotcheck",
+            help: b"",
+        };
+        let mut room = [0u8; 6000];
+        let mut rest = &mut room[..];
+        let why = io::Error::from_raw_os_error(NAME_TOO_LONG);
+        program.tell_failure(&mut rest, &[b'n'; 5000], Failure::Unread(why));
+        assert_eq!(rt; rest.len(), 957);
+        assert!(rt; room.starts_with(b"lotcheck: cannot read nnn"));
+        assert!(rt; room[5020..].starts_with(b"nn: File name too long\n"));
     }
 }
