@@ -119,11 +119,14 @@ module _ (w : Code.World) (net estimate : List ℕ) (e : gives (world_view w) �
     unfolding start and_then
     start_of = ap (λ (s : Spec.State). gives s) q ∙ ap (λ (a : Answer World). and_then a (λ x. gives (begin x))) e
 
+    start_invariant : Invariant (state_view st)
+    start_invariant = start_gives net estimate (state_view st) (sym start_of)
+
     pub start_fits : (Invariant (state_view st) → Fits st) → Fits st
-    start_fits f = f (start_gives net estimate (state_view st) (sym start_of))
+    start_fits f = f start_invariant
 
     pub started : (Invariant (state_view st) → FitsNet st) → answer_view st.told ≡ gives silent → Started net estimate (Prelude.Ok st)
-    started f t = record { result = start_of; fits = f (start_gives net estimate (state_view st) (sym start_of)); told = t }
+    started f t = record { result = start_of; fits = f start_invariant; told = t }
 
 -- a start of texts that are refused
 pub not_started : (net estimate : List ℕ) (why : Refusal) → answer_of world_view (Prelude.Err why) ≡ read_both net estimate → Started net estimate (Prelude.Err why)

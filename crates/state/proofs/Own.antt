@@ -26,11 +26,11 @@ use Rattle.state.specs.declared.State.{State}
 use Rattle.state.specs.View.{state_view, result_view}
 use Rattle.state.specs.Fits.{Fits, FitsNet}
 
--- so it is of what a state stands for
+-- the net's lines are the first of the lines of a state of document 01
 abbrev pub OwnFirst : Spec.State → Type 0
 OwnFirst s = take (length s.net.lines) s.lines ≡ s.net.lines
 
--- a state, and what it stands for
+-- the same of a state of the code, and of what it stands for
 module _ (st : State) where
   pub own_view : take st.net.lines.count (lines_of st.lines) ≡ lines_of st.net.lines → OwnFirst (state_view st)
   unfolding state_view
